@@ -1,0 +1,4 @@
+pub mod Cabinet
+pub mod Count
+pub mod Sink
+pub mod formers

@@ -1,0 +1,16 @@
+//! Lists, places, errors, and the two seams to the outside: a cabinet of files and a sink for output.
+#![tactic(auto)]
+
+mod boxed;
+mod cabinet;
+mod error;
+mod list;
+mod place;
+mod sink;
+
+pub use boxed::Boxed;
+pub use cabinet::Cabinet;
+pub use error::{Failed, FetchError, NoMemory};
+pub use list::{List, Text, Words};
+pub use place::{Peripheral, Pos};
+pub use sink::{Sink, send_all};

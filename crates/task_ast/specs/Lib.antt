@@ -1,0 +1,4 @@
+pub mod CoreCounters
+pub mod CoreExpressions
+pub mod Counters
+pub mod Expressions

@@ -1,0 +1,8 @@
+//! Programs as they are read, and the checked form that every later layer works on.
+#![tactic(auto)]
+
+mod core_form;
+mod tree;
+
+pub use core_form::{Array, Core, CoreEnd, CoreExit, CoreExpr, CoreStmt, CoreTask, Site};
+pub use tree::{Ann, Decl, Exit, Expr, Kind, Name, Op1, Op2, Place, Program, Stmt, Target, Task};
