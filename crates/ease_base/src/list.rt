@@ -82,6 +82,15 @@ impl<T: Copy> List<T> {
         let items = Vec::from_slice(alloc, items)?;
         Ok(List { items })
     }
+
+    /// Puts copies of `items` at the end. Without memory the list is as before.
+    pub fn extend(&mut self, items: &[T]) -> Result<(), NoMemory>
+        ensures ok { OnOk result (self.new ≡ self.old ++ items.now) }
+        ensures err { OnErr result (self.new ≡ self.old) }
+    {
+        self.items.extend_from_slice(items)?;
+        Ok(())
+    }
 }
 
 impl<T: Drop> List<T> {
