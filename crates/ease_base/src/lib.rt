@@ -5,6 +5,7 @@ mod boxed;
 mod cabinet;
 mod error;
 mod list;
+mod number;
 mod place;
 mod sink;
 
@@ -12,5 +13,6 @@ pub use boxed::Boxed;
 pub use cabinet::Cabinet;
 pub use error::{Failed, FetchError, NoMemory};
 pub use list::{List, Text, Words};
+pub use number::{digits, put_number};
 pub use place::{Peripheral, Pos};
 pub use sink::{Sink, send_all};
