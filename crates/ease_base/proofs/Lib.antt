@@ -1,2 +1,3 @@
+pub mod MemCabinetLemmas
 pub mod NumberLemmas
 pub mod SinkLemmas
