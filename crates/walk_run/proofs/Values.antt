@@ -1,0 +1,30 @@
+-- The value of a cell and of an operator, by how their parts end.
+use Rattle.std.proofs.Common.{◌≡◌, ◌∙◌, ℕ, Result, Ok, sym, ap}
+use Rattle.task_ast.specs.declared.tree.Op2.{Op2}
+use Rattle.task_ast.specs.declared.core_form.CoreExpr.{CoreExpr}
+use Rattle.task_ast.specs.declared.core_form.CoreExpr.TheVariants.{Cell, Two}
+use Rattle.walk_run.specs.Store.{Store, place_of, word_at}
+use Rattle.walk_run.specs.Value.{with_word, two_words, two_values, cell_value, value_of, value_at_cell, value_at_two}
+
+-- what a call on a part gave
+pub part_value : (part got : CoreExpr) (store : Store) (result r : Result ℕ ℕ)
+    → got ≡ part → result ≡ value_of got store → result ≡ r → value_of part store ≡ r
+part_value part got store result r is value was = ap (λ e. value_of e store) (sym is) ∙ sym value ∙ was
+
+pub cell_at_index : (e index : CoreExpr) (store : Store) (array : ℕ) (r : Result ℕ ℕ)
+    → e ≡ Cell array index → value_of index store ≡ r → value_of e store ≡ cell_value store array r
+cell_at_index e index store array r is v = value_at_cell e store array index is ∙ ap (cell_value store array) v
+
+pub cell_at_place : (e index : CoreExpr) (store : Store) (array i : ℕ) (r : Result ℕ ℕ)
+    → e ≡ Cell array index → value_of index store ≡ Ok i → place_of store array i ≡ r
+    → value_of e store ≡ with_word r (λ place. Ok (word_at store array place))
+cell_at_place e index store array i r is v p =
+    cell_at_index e index store array (Ok i) is v ∙ ap (λ x. with_word x (λ place. Ok (word_at store array place))) p
+
+pub two_at_left : (e a b : CoreExpr) (store : Store) (op : Op2) (r : Result ℕ ℕ)
+    → e ≡ Two op a b → value_of a store ≡ r → value_of e store ≡ two_values op r (value_of b store)
+two_at_left e a b store op r is v = value_at_two e store op a b is ∙ ap (λ x. two_values op x (value_of b store)) v
+
+pub two_at_right : (e a b : CoreExpr) (store : Store) (op : Op2) (x : ℕ) (r : Result ℕ ℕ)
+    → e ≡ Two op a b → value_of a store ≡ Ok x → value_of b store ≡ r → value_of e store ≡ with_word r (two_words op x)
+two_at_right e a b store op x r is v w = two_at_left e a b store op (Ok x) is v ∙ ap (λ y. with_word y (two_words op x)) w

@@ -1,0 +1,47 @@
+-- Each variant, by how its parts end.
+use Rattle.std.proofs.Common.{◌∙◌, Ok, sym, ap}
+use Rattle.std.proofs.lemmas.Result.{err_from_is_err_and}
+use Rattle.walk_run.proofs.Values.{part_value, cell_at_index, cell_at_place, two_at_left, two_at_right}
+use Rattle.walk_run.proofs.value.+value.Goals as goal
+
+pub returns-in_err-index-in-Cell : goal.returns-in_err-index-in-Cell
+returns-in_err-index-in-Cell t c =
+    let trap = part_value _ _ _ _ _ c.get.ensures c.value.ensures c.in_err-index-in-Cell.was in
+    let exit = c.from_residual in
+    let p = err_from_is_err_and exit.result exit.ensures.1 in
+    rw (p.1, p.2) (sym (cell_at_index _ _ _ _ _ c.in-Cell.is trap))
+
+pub returns-in_err-place-in-Cell : goal.returns-in_err-place-in-Cell
+returns-in_err-place-in-Cell t c =
+    let i = part_value _ _ _ _ _ c.get.ensures c.value.ensures c.in_ok-index-in-Cell.was in
+    let trap = sym c.place.ensures.place ∙ c.in_err-place-in-Cell.was in
+    let exit = c.from_residual-in_err-place-in-Cell in
+    let p = err_from_is_err_and exit.result exit.ensures.1 in
+    rw (p.1, p.2) (sym (cell_at_place _ _ _ _ _ _ c.in-Cell.is i trap))
+
+pub returns-in_ok-place-in-Cell : goal.returns-in_ok-place-in-Cell
+returns-in_ok-place-in-Cell t c =
+    let i = part_value _ _ _ _ _ c.get.ensures c.value.ensures c.in_ok-index-in-Cell.was in
+    let place = sym c.place.ensures.place ∙ c.in_ok-place-in-Cell.was in
+    ap Ok c.word.ensures ∙ sym (cell_at_place _ _ _ _ _ _ c.in-Cell.is i place)
+
+pub returns-in_err-left-in-Two : goal.returns-in_err-left-in-Two
+returns-in_err-left-in-Two t c =
+    let trap = part_value _ _ _ _ _ c.get-in-Two.ensures c.value-in-Two.ensures c.in_err-left-in-Two.was in
+    let exit = c.from_residual-in_err-left-in-Two in
+    let p = err_from_is_err_and exit.result exit.ensures.1 in
+    rw (p.1, p.2) (sym (two_at_left _ _ _ _ _ _ c.in-Two.is trap))
+
+pub returns-in_err-right-in-Two : goal.returns-in_err-right-in-Two
+returns-in_err-right-in-Two t c =
+    let left = part_value _ _ _ _ _ c.get-in-Two.ensures c.value-in-Two.ensures c.in_ok-left-in-Two.was in
+    let trap = part_value _ _ _ _ _ c.get-in-Two-2.ensures c.value-in-Two-2.ensures c.in_err-right-in-Two.was in
+    let exit = c.from_residual-in_err-right-in-Two in
+    let p = err_from_is_err_and exit.result exit.ensures.1 in
+    rw (p.1, p.2) (sym (two_at_right _ _ _ _ _ _ _ c.in-Two.is left trap))
+
+pub returns-in_ok-right-in-Two : goal.returns-in_ok-right-in-Two
+returns-in_ok-right-in-Two t c =
+    let left = part_value _ _ _ _ _ c.get-in-Two.ensures c.value-in-Two.ensures c.in_ok-left-in-Two.was in
+    let right = part_value _ _ _ _ _ c.get-in-Two-2.ensures c.value-in-Two-2.ensures c.in_ok-right-in-Two.was in
+    c.of_two.ensures ∙ sym (two_at_right _ _ _ _ _ _ _ c.in-Two.is left right)

@@ -1,0 +1,6 @@
+pub mod Ended
+pub mod Store
+pub mod Task
+pub mod Value
+pub mod Walk
+pub mod WalkText
