@@ -1,0 +1,13 @@
+//! Checks a program that was read, and gives its checked form or the first fault in text order.
+#![tactic(auto)]
+
+mod declarations;
+mod error;
+mod expressions;
+mod names;
+mod program;
+mod tasks;
+
+pub use error::{CheckError, Limit};
+pub use names::Meaning;
+pub use program::check;

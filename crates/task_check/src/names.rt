@@ -1,0 +1,60 @@
+//! The table of declared names: what each name stands for.
+ghost use Rattle.std.specs.Prelude.{◌≡◌, ◌∷◌, [], ◌≤◌, ◌^◌, IfOk, IfErr, OnOk, None, is_none};
+ghost use Rattle.task_check.specs.Names.{extended};
+ghost use Rattle.task_check.specs.Table.{meanings};
+
+use ease_base::NoMemory;
+use indexmap::IndexMap;
+use std::alloc::Global;
+
+/// What a declared name stands for.
+#[derive(Clone, Copy, Debug, PartialEq, Eq)]
+pub enum Meaning {
+    /// A scalar: the number of its array, from 0.
+    Scalar(u32),
+    /// A task: its number, from 1.
+    Task(u32),
+}
+
+/// Names in the order of their first declarations.
+#[derive(Drop)]
+pub struct Names<'a> {
+    map: IndexMap<&'a [u8], Meaning>,
+}
+
+impl<'a> Names<'a> {
+    pub fn new(alloc: Global) -> Names<'a>
+        ensures { meanings result ≡ (λ _. None) }
+    {
+        Names {
+            map: IndexMap::new(alloc),
+        }
+    }
+
+    /// What `text` stands for; None where it isn't declared.
+    pub fn find(&self, text: &[u8]) -> Option<Meaning>
+        ensures { result ≡ meanings self.now text.now }
+    {
+        self.map.get(text).copied()
+    }
+
+    /// Declares `text`, and says whether it is new. A name that was declared keeps its meaning.
+    pub fn declare(&mut self, text: &'a [u8], meaning: Meaning) -> Result<bool, NoMemory>
+        ensures first { IfOk result (λ first. first ≡ is_none (meanings self.old text.now)) }
+        ensures declared { OnOk result (meanings self.new ≡ extended (meanings self.old) ((text.now, meaning) ∷ [])) }
+    {
+        if self.find(text).is_some() {
+            return Ok(false);
+        }
+        self.map.insert(text, meaning)?;
+        Ok(true)
+    }
+}
+
+/// The number as `u32`. A tree of 2 ^ 32 names or tasks has no room in memory.
+pub fn number(at: usize) -> Result<u32, NoMemory>
+    ensures same { IfOk result (λ n. n ≡ at) }
+    ensures full { IfErr result (λ _. 2 ^ 32 ≤ at) }
+{
+    u32::try_from(at).map_err(|_| NoMemory)
+}
