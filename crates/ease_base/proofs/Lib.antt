@@ -1,3 +1,4 @@
+mod Examples
 pub mod MemCabinetLemmas
 pub mod NumberLemmas
 pub mod SinkLemmas

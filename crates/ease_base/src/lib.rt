@@ -12,6 +12,8 @@ mod number;
 mod place;
 mod sink;
 mod system;
+#[cfg(test)]
+mod tests;
 
 pub use boxed::Boxed;
 pub use cabinet::Cabinet;

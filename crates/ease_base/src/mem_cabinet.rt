@@ -70,6 +70,20 @@ impl MemCabinet {
         self.files.push(File { name, bytes })?;
         Ok(())
     }
+
+    /// How many fetches failed because they were to fail.
+    pub fn faults(&self) -> u64
+        ensures { result ≡ self.now.faults }
+    {
+        self.faults
+    }
+
+    /// How many fetches answered `TooLong`.
+    pub fn long_contents(&self) -> u64
+        ensures { result ≡ self.now.long_contents }
+    {
+        self.long_contents
+    }
 }
 
 // The bytes of the first file of that name.

@@ -57,6 +57,13 @@ impl MemSink {
     {
         self.bytes.as_slice()
     }
+
+    /// How many writes failed.
+    pub fn faults(&self) -> u64
+        ensures { result ≡ self.now.faults }
+    {
+        self.faults
+    }
 }
 
 // Puts bytes at the end, within the memory that is there.

@@ -142,11 +142,11 @@ impl<R: Print> Sink for StdoutSink<R> {
         ensures failed { OnErr result (self.new ≡ raised self.old) }
         ensures never_falls { self.old ≤ self.new }
     {
-        let count = self.system.write_some(piece).unwrap_or(0);
-        if count == 0 {
+        let taken = self.system.write_some(piece).unwrap_or(0);
+        if taken == 0 {
             raise(&mut self.faults);
             return Err(Failed);
         }
-        Ok(count)
+        Ok(taken)
     }
 }
