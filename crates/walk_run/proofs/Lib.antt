@@ -1,4 +1,5 @@
 mod Examples
+pub mod RunLaws
 pub mod Runs
 pub mod Stores
 pub mod Values

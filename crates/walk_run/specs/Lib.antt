@@ -1,4 +1,6 @@
 pub mod Ended
+pub mod Examples
+pub mod Laws
 pub mod Store
 pub mod Task
 pub mod Value
