@@ -1,5 +1,5 @@
 //! A cabinet in memory, whose fetches fail at calls of choice.
-ghost use Rattle.std.specs.Prelude.{◌≡◌, ◌≢◌, ◌⊎◌, ◌↔◌, ◌≤◌, ◌<◌, ℕ, List, [], Option, IsTrue, IsErrOf, OnOk, OnErr, vec_len, true};
+ghost use Rattle.std.specs.Prelude.{◌≡◌, ◌≢◌, ◌⊎◌, ◌↔◌, ◌≤◌, ◌<◌, ℕ, List, [], IsTrue, IsErrOf, OnOk, OnErr, vec_len, true};
 ghost use Rattle.std.specs.Option.{option_copied};
 ghost use Rattle.ease_base.specs.Cabinet.{BringsFront};
 ghost use Rattle.ease_base.specs.MemCabinet.{contents_in};
@@ -46,6 +46,7 @@ impl MemCabinet {
     pub fn make(alloc: Global, fails: Words) -> MemCabinet
         ensures made { result ≡ record { files = []; fails = fails; calls = 0; faults = 0; long_contents = 0 } }
         ensures no_names { (name : List ℕ) → contents_in result.files name ≡ None }
+        ensures told { IsTrue (⟦<MemCabinet as Cabinet>⟧.told result) }
     {
         MemCabinet {
             files: Vec::new(alloc),
@@ -62,6 +63,7 @@ impl MemCabinet {
         ensures added { OnOk result (contents_in self.new.files name.now ≡ Some bytes.now) }
         ensures others { OnOk result ((other : List ℕ) → other ≢ name.now → contents_in self.new.files other ≡ contents_in self.old.files other) }
         ensures counts { OnOk result (self.new ≡ record self.old { files = self.new.files }) }
+        ensures told { IsTrue (⟦<MemCabinet as Cabinet>⟧.told self.new) }
         ensures err { OnErr result (self.new ≡ self.old) }
     {
         let alloc = *self.files.allocator();

@@ -1,5 +1,5 @@
 //! A sink in memory, with room for so many bytes, whose writes fail at calls of choice.
-ghost use Rattle.std.specs.Prelude.{◌≡◌, ◌+◌, ◌<◌, ◌≤◌, ◌↔◌, ◌++◌, [], length, vec_len, vec_capacity, Some, IfOk, IsErr, OnErr};
+ghost use Rattle.std.specs.Prelude.{◌≡◌, ◌+◌, ◌<◌, ◌≤◌, ◌↔◌, ◌++◌, [], length, vec_capacity, Some, IfOk, IsErr, OnErr};
 ghost use Rattle.ease_base.specs.MemSink.{Fails, taken_count, written, refused};
 
 use crate::count::{count_call, raise};
@@ -40,7 +40,8 @@ impl MemSink {
     /// An empty sink that takes `room` bytes in all, whose write of number `n`, from 1, fails where `n` stands in
     /// `fails`. All its memory is taken here.
     pub fn make(alloc: Global, room: usize, fails: Words) -> Result<MemSink, NoMemory>
-        ensures { IfOk result (λ s. s ≡ record { taken = []; room = room; fails = fails; calls = 0; faults = 0 }) }
+        ensures made { IfOk result (λ s. s ≡ record { taken = []; room = room; fails = fails; calls = 0; faults = 0 }) }
+        ensures told { IfOk result (λ s. ⟦<MemSink as Sink>⟧.taken s ≡ Some []) }
     {
         Ok(MemSink {
             bytes: Vec::with_capacity(alloc, room)?,
@@ -53,7 +54,8 @@ impl MemSink {
 
     /// The bytes taken so far.
     pub fn taken(&self) -> &[u8]
-        ensures { result.now ≡ self.now.taken }
+        ensures taken { result.now ≡ self.now.taken }
+        ensures told { ⟦<MemSink as Sink>⟧.taken self.now ≡ Some result.now }
     {
         self.bytes.as_slice()
     }

@@ -1,5 +1,5 @@
 //! The adapters over the system: a cabinet of its files, and a sink over its standard output.
-ghost use Rattle.std.specs.Prelude.{◌≡◌, ℕ, ◌+◌, ◌<◌, ◌≤◌, [], false, None, length, vec_len, IfOk, OnOk, OnErr, IsErrOf};
+ghost use Rattle.std.specs.Prelude.{◌≡◌, ◌+◌, ◌<◌, ◌≤◌, [], false, None, length, vec_len, IfOk, OnOk, OnErr, IsErrOf};
 ghost use Rattle.ease_base.specs.Cabinet.{counted};
 ghost use Rattle.ease_base.specs.Count.{raised};
 ghost use Rattle.ease_base.specs.System.{faulted};

@@ -1,7 +1,7 @@
 //! Values from outside: digits, faults by the number of the call, room, limits, and files of the system.
 use crate::{
-    Cabinet, Failed, FetchError, FileCabinet, MemCabinet, MemSink, StdoutSink, Text, Words, digits,
-    put_number, send_all,
+    Boxed, Cabinet, Failed, FetchError, FileCabinet, MemCabinet, MemSink, StdoutSink, Text, Words,
+    digits, put_number, send_all,
 };
 use std::fmt::Display;
 use std::io;
@@ -39,6 +39,19 @@ fn digits_stand_at_the_front(rt: HostRuntime) {
         let count = digits(n, &mut into);
         assert_eq!(rt; &into[..count], want.as_bytes(), "at {n}");
     }
+}
+
+#[test]
+fn lists_and_boxes_give_back_what_was_put(rt: HostRuntime) -> Result<(), Fail> {
+    let mut words = Words::from_vec(vec![in rt.alloc(); 7, 8]?);
+    words.push(9)?;
+    assert_eq!(rt; words.as_slice(), [7, 8, 9].as_slice());
+    assert_eq!(rt; words.get(2).copied(), Some(9));
+    assert_eq!(rt; words.get(3).copied(), None);
+    let boxed = Boxed::new(rt.alloc(), 7)?;
+    assert_eq!(rt; *boxed.get(), 7);
+    assert_eq!(rt; boxed.into_inner(), 7);
+    Ok(())
 }
 
 #[test]
