@@ -9,7 +9,7 @@ use Rattle.task_ast.specs.declared.core_form.Array.{Array}
 use Rattle.task_ast.specs.declared.core_form.CoreTask.{CoreTask}
 use Rattle.task_check.specs.declared.error.CheckError.{CheckError}
 use Rattle.task_check.specs.Names.{Meanings, look_up, extended, decl_name, declared_arrays, declared_tasks, names_of}
-use Rattle.task_check.specs.Faults.{decls_faults, tasks_faults, first, first_fault, Accepted}
+use Rattle.task_check.specs.Faults.{decls_faults, tasks_faults, faults, first, first_fault, Accepted}
 use Rattle.task_check.specs.Bearers.{numbered_faults}
 use Rattle.task_check.specs.CheckedForm.{core_arrays, core_task, core_of}
 use Rattle.task_check.proofs.FirstLemmas.{first-behind, none-append}
@@ -33,16 +33,19 @@ module _ (p : Program) (ds : List Decl) (ts : List Task) (names : Meanings) (at_
 
   -- a fault of the tasks is the first where the declarations have none
   pub tasks_refused : (e : CheckError) → decls_faults [] ds ≡ [] → first (numbered_faults names 1 ts) ≡ Some e → first_fault p ≡ Some e
+  unfolding faults
   tasks_refused e none h = first-behind (decls_faults [] p.decls) (tasks_faults (names_of p) (map (λ d. (decl_name d).text) p.decls) p.tasks) e (decls_none none) (ap first tasks_are ∙ h)
 
   -- where neither have faults, the program is accepted
   pub all_accepted : decls_faults [] ds ≡ [] → numbered_faults names 1 ts ≡ [] → Accepted p
+  unfolding faults
   all_accepted none h = none-append (decls_faults [] p.decls) (tasks_faults (names_of p) (map (λ d. (decl_name d).text) p.decls) p.tasks) (decls_none none) (tasks_are ∙ h)
 
   -- the parts of the checked form
   pub core_is : (ds' : List Decl) (arrays : List Array) (tasks : List CoreTask) (pointers : List (List ℕ)) (peripherals : List Peripheral) → ds' ≡ p.decls
       → arrays ≡ flat_map core_arrays ds' → tasks ≡ map (core_task names) ts → pointers ≡ [] → peripherals ≡ []
       → record { arrays = arrays; pointers = pointers; peripherals = peripherals; tasks = tasks } ≡ core_of p
+  unfolding core_of
   core_is ds' arrays tasks pointers peripherals at_ds' at_arrays at_tasks no_pointers no_peripherals = λ i. record {
     arrays = (at_arrays ∙ ap (flat_map core_arrays) at_ds') i;
     pointers = no_pointers i;

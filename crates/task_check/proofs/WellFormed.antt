@@ -21,7 +21,7 @@ use Rattle.task_ast.specs.Expressions.{for_every}
 use Rattle.task_check.specs.declared.names.Meaning.{Meaning}
 use Rattle.task_check.specs.declared.names.Meaning.TheVariants as meaning
 use Rattle.task_check.specs.Names.{Meanings, decl_name, names_of}
-use Rattle.task_check.specs.Faults.{unknown_name, not_scalar, not_task, expr_faults, stmt_faults, exit_faults, inner_faults, decls_faults, tasks_faults, twice_named, Accepted}
+use Rattle.task_check.specs.Faults.{unknown_name, not_scalar, not_task, expr_faults, stmt_faults, exit_faults, inner_faults, decls_faults, tasks_faults, twice_named, faults, Accepted}
 use Rattle.task_check.specs.CheckedForm.{array_number, task_number, core_expr, core_stmts, core_exit, core_task, core_arrays, core_of}
 use Rattle.task_check.proofs.FirstLemmas.{none-front, none-behind}
 use Rattle.task_check.proofs.MeaningLemmas.{IsInRange, names_in_range, all-append}
@@ -100,6 +100,7 @@ arrays_formed (d ∷ ds) h =
 
 -- the checked form of an accepted program is well formed
 pub core_formed : (p : Program) → IsCounterProgram p → Accepted p → IsCounterCore (core_of p)
+unfolding faults core_of
 core_formed p h none =
     let formed = arrays_formed p.decls h.decls in
     let same : length (map (core_task (names_of p)) p.tasks) ≡ length p.tasks = length-map p.tasks (core_task (names_of p)) in

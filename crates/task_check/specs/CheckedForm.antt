@@ -70,7 +70,7 @@ core_arrays (decl.Words kind x size values) = record { name = x.text; kind = kin
 core_arrays _ = []
 
 -- the checked form
-abbrev pub core_of : Program → Core
+unfoldable pub core_of : Program → Core
 core_of p = record {
   arrays = flat_map core_arrays p.decls;
   pointers = [];

@@ -90,7 +90,7 @@ tasks_faults names earlier (t ∷ ts) =
     twice_named earlier t.name ++ inner_faults names t ++ tasks_faults names (earlier ++ t.name.text ∷ []) ts
 
 -- all faults of a program in text order: declarations, then tasks
-abbrev pub faults : Program → List CheckError
+unfoldable pub faults : Program → List CheckError
 faults p = decls_faults [] p.decls ++ tasks_faults (names_of p) (map (λ d. (decl_name d).text) p.decls) p.tasks
 
 -- no row is broken

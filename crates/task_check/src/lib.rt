@@ -7,7 +7,8 @@ mod expressions;
 mod names;
 mod program;
 mod tasks;
+#[cfg(test)]
+mod tests;
 
 pub use error::{CheckError, Limit};
-pub use names::Meaning;
 pub use program::check;

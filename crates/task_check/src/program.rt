@@ -14,6 +14,7 @@ use task_ast::{Core, Program};
 
 /// The checked form of an accepted program, else the first fault in text order; at one place the
 /// earlier refusal of `CheckError`. The rules stand in docs/LANGUAGE.md.
+#[tactic(auto, unfolding(crate::specs::Faults::faults, crate::specs::CheckedForm::core_of))]
 pub fn check(alloc: Global, p: &Program) -> Result<Core, CheckError>
     requires counters { IsCounterProgram p.now }
     ensures accepted { IfOk result (λ c. (Accepted p.now) × (c ≡ core_of p.now)) }
