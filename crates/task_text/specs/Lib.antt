@@ -1,0 +1,5 @@
+pub mod Cutting
+pub mod Division
+pub mod Grammar
+pub mod Reads
+pub mod Spelling

@@ -1,0 +1,7 @@
+//! Reading: from the bytes of a program to its tree.
+#![tactic(auto)]
+
+mod cut;
+mod token;
+
+pub use token::{Keyword, Lexeme, Sign, Token};
