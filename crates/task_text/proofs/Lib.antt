@@ -1,1 +1,6 @@
+pub mod Bytes
+pub mod CutComplete
 pub mod CutLemmas
+pub mod CutSound
+pub mod Numerals
+pub mod Tables
