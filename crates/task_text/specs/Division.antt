@@ -1,5 +1,5 @@
 -- The division of a text into tokens, and the white space and comments between them (docs/LANGUAGE.md, "Tokens").
-use Rattle.std.specs.Prelude.{◌≡◌, ◌≢◌, ℕ, ◌+◌, Bool, true, false, not, ◌&&◌, ◌||◌, if◌then◌else◌, ◌==◌, IsTrue, ◌⊎◌, List, [], ◌∷◌, ◌++◌, fold, Option, Some, None, codes}
+use Rattle.std.specs.Prelude.{◌≡◌, ◌≢◌, ℕ, ◌+◌, ◌<◌, Bool, true, false, not, ◌&&◌, ◌||◌, if◌then◌else◌, ◌==◌, IsTrue, ◌⊎◌, List, [], ◌∷◌, ◌++◌, fold, Option, Some, None, codes}
 use Rattle.std.specs.List.{list_all}
 use Rattle.ease_base.specs.declared.place.Pos.{Pos}
 use Rattle.task_text.specs.declared.token.Lexeme.{Lexeme}
@@ -69,6 +69,10 @@ pub record IsStuck (rest : List ℕ) : Type 0 where
 -- the place of a text's first byte
 abbrev pub start : Pos
 start = record { line = 1; column = 1 }
+
+-- lines and columns are from 1
+abbrev pub IsPlace : Pos → Type 0
+IsPlace at = (0 < at.line) × (0 < at.column)
 
 -- the place behind a byte; only a line feed ends a line
 abbrev pub next_place : Pos → ℕ → Pos

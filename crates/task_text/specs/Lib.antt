@@ -1,4 +1,5 @@
 pub mod Cutting
+pub mod Divided
 pub mod Division
 pub mod Grammar
 pub mod Reads

@@ -2,6 +2,7 @@
 #![tactic(auto)]
 
 mod cut;
+mod divide;
 mod token;
 
 pub use token::{Keyword, Lexeme, Sign, Token};
