@@ -4,5 +4,7 @@ pub mod CutLemmas
 pub mod CutSound
 pub mod DivisionLaws
 pub mod DivisionSteps
+pub mod Items
 pub mod Numerals
 pub mod Tables
+pub mod Terms

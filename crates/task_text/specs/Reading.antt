@@ -167,3 +167,76 @@ unfoldable mutual
   pub expr_at : ℕ → List Token → Outcome Deep
   expr_at zero ts = Err ts
   expr_at (suc n) ts = part_of (expr_at n) ts >>= λ left. sum_from (suc n) (suc n) (part_at n) left.value left.rest
+
+-- ---- items
+
+-- as many items as there are while they begin so; an item takes a token at least, so the number is that of the tokens
+unfoldable pub many : {T : Type 0} → ℕ → (List Token → Bool) → (List Token → Outcome T) → List Token → Outcome (List T)
+many zero begins item ts = found [] ts
+many (suc n) begins item ts =
+    if begins ts then (item ts >>= λ x. many n begins item x.rest >>= λ xs. found (x.value ∷ xs.value) xs.rest) else found [] ts
+
+-- nothing, or `= NUM`
+unfoldable pub init_at : List Token → Outcome (List ℕ)
+init_at ts = if begins_sign sign.Equal ts then (sign_at sign.Equal ts >>= λ a. number_at a.rest >>= λ n. found (n.value.value ∷ []) n.rest) else found [] ts
+
+unfoldable pub decl_at : List Token → Outcome Decl
+decl_at ts = do
+  a ← reserved_at keyword.Nv ts
+  b ← reserved_at keyword.Word a.rest
+  x ← name_at b.rest
+  values ← init_at x.rest
+  c ← sign_at sign.Semicolon values.rest
+  found (decl.Words Nv x.value None values.value) c.rest
+
+unfoldable pub stmt_at : List Token → Outcome Stmt
+stmt_at ts = do
+  x ← name_at ts
+  a ← sign_at sign.Equal x.rest
+  e ← expr_at deepest a.rest
+  b ← sign_at sign.Semicolon e.rest
+  found (stmt.Assign (target.Scalar x.value) e.value.expr) b.rest
+
+unfoldable pub next_at : List Token → Outcome Exit
+next_at ts = do
+  a ← reserved_at keyword.Next ts
+  b ← sign_at sign.ParenOpen a.rest
+  x ← name_at b.rest
+  c ← sign_at sign.ParenClose x.rest
+  d ← sign_at sign.Semicolon c.rest
+  found (exit.Next x.value) d.rest
+
+unfoldable pub stop_at : List Token → Outcome Exit
+stop_at ts = do
+  a ← reserved_at keyword.Stop ts
+  b ← sign_at sign.Semicolon a.rest
+  found exit.Stop b.rest
+
+unfoldable pub exit_at : List Token → Outcome Exit
+exit_at ts = if begins_reserved keyword.Next ts then next_at ts else stop_at ts
+
+abbrev pub stmts_at : List Token → Outcome (List Stmt)
+stmts_at ts = many (length ts) begins_name stmt_at ts
+
+unfoldable pub task_at : List Token → Outcome Task
+task_at ts = do
+  a ← reserved_at keyword.Task ts
+  x ← name_at a.rest
+  b ← sign_at sign.BraceOpen x.rest
+  body ← stmts_at b.rest
+  e ← exit_at body.rest
+  close ← sign_at sign.BraceClose e.rest
+  found (record { name = x.value; body = body.value; exit = e.value; close = close.value }) close.rest
+
+abbrev pub decls_at : List Token → Outcome (List Decl)
+decls_at ts = many (length ts) (begins_reserved keyword.Nv) decl_at ts
+
+abbrev pub tasks_at : List Token → Outcome (List Task)
+tasks_at ts = many (length ts) (begins_reserved keyword.Task) task_at ts
+
+-- a program, if it has a task and no token is left
+abbrev pub whole : Program → List Token → Outcome Program
+whole p ts = if is_empty p.tasks then Err ts else (if is_empty ts then found p ts else Err ts)
+
+unfoldable pub program_at : List Token → Outcome Program
+program_at ts = decls_at ts >>= λ decls. tasks_at decls.rest >>= λ tasks. whole (record { decls = decls.value; tasks = tasks.value }) tasks.rest

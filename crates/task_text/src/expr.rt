@@ -6,7 +6,7 @@ ghost use Rattle.task_text.specs.Reading.{Gives};
 use crate::cursor::Cursor;
 use crate::error::ReadError;
 use crate::token::Sign;
-use ease_base::Boxed;
+use ease_base::{Boxed, NoMemory};
 use std::alloc::Global;
 use task_ast::{Expr, Op2};
 
@@ -17,7 +17,7 @@ pub struct Deep {
     pub depth: u32,
 }
 
-fn parenthesized(alloc: Global, inner: Deep) -> Result<Deep, ReadError>
+fn parenthesized(alloc: Global, inner: Deep) -> Result<Deep, NoMemory>
     requires { inner.depth < 2 ^ 32 - 1 }
     ensures { IfOk result (λ d. d ≡ spec.parenthesized inner) }
 {
@@ -28,7 +28,7 @@ fn parenthesized(alloc: Global, inner: Deep) -> Result<Deep, ReadError>
     })
 }
 
-fn sum(alloc: Global, left: Deep, right: Deep) -> Result<Deep, ReadError>
+fn sum(alloc: Global, left: Deep, right: Deep) -> Result<Deep, NoMemory>
     requires left { left.depth < 2 ^ 32 - 1 }
     requires right { right.depth < 2 ^ 32 - 1 }
     ensures { IfOk result (λ d. d ≡ spec.sum left right) }
@@ -67,6 +67,7 @@ impl Cursor<'_> {
 
     /// Takes an expression in parentheses, whose inside may be so deep.
     #[cycle(expr)]
+    #[tactic(auto, unfolding(crate::specs::Reading::paren_of))]
     fn paren(&mut self, alloc: Global, allowed: u32) -> Result<Deep, ReadError>
         requires { allowed < 2 ^ 32 - 1 }
         ensures value { Gives (spec.paren_of (spec.expr_at allowed) self.old) result self.new }
@@ -75,7 +76,7 @@ impl Cursor<'_> {
         self.sign(Sign::ParenOpen)?;
         let inner = self.expr(alloc, allowed)?;
         self.sign(Sign::ParenClose)?;
-        parenthesized(alloc, inner)
+        Ok(parenthesized(alloc, inner)?)
     }
 
     /// Takes a number, a scalar or an expression in parentheses that is at most so deep.

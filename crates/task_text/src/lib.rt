@@ -6,6 +6,7 @@ mod cut;
 mod divide;
 mod error;
 mod expr;
+mod program;
 mod token;
 
 pub use error::TextError;
