@@ -4,7 +4,10 @@ pub mod CutLemmas
 pub mod CutSound
 pub mod DivisionLaws
 pub mod DivisionSteps
+pub mod ExprComplete
+pub mod ExprSound
 pub mod Items
 pub mod Numerals
 pub mod Tables
 pub mod Terms
+pub mod TokenLaws
