@@ -7,6 +7,7 @@ pub mod DivisionSteps
 pub mod ExprComplete
 pub mod ExprSound
 pub mod Items
+pub mod ItemsSound
 pub mod Numerals
 pub mod Tables
 pub mod Terms
