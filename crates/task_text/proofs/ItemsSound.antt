@@ -180,11 +180,11 @@ program-sound ts us p h =
 off-takes : {T : Type 0} (P : T → List Token → Type 0) (ts us : List Token) (x : T) → Off P ts x us → ((front : List Token) → P x front → 0 < length front) → length us < length ts
 off-takes P ts us x o some = omega (arith, ap length o.split, length-append o.front us, some o.front o.fits)
 
-stmt-some : (s : Stmt) (front : List Token) → IsStmt s front → 0 < length front
+pub stmt-some : (s : Stmt) (front : List Token) → IsStmt s front → 0 < length front
 stmt-some (stmt.Assign (target.Scalar x) e) front h = omega (arith, ap length h.3)
 stmt-some _ front h = absurd h
 
-decl-some : (d : Decl) (front : List Token) → IsDecl d front → 0 < length front
+pub decl-some : (d : Decl) (front : List Token) → IsDecl d front → 0 < length front
 decl-some (decl.Words kind x None values) front h = omega (arith, ap length h.4)
 decl-some _ front h = absurd h
 

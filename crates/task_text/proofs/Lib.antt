@@ -1,4 +1,5 @@
 pub mod Bytes
+pub mod CountersLaws
 pub mod CutComplete
 pub mod CutLemmas
 pub mod CutSound
@@ -7,8 +8,11 @@ pub mod DivisionSteps
 pub mod ExprComplete
 pub mod ExprSound
 pub mod Items
+pub mod ItemsComplete
 pub mod ItemsSound
 pub mod Numerals
+pub mod ReadLaws
+pub mod Stays
 pub mod Tables
 pub mod Terms
 pub mod TokenLaws

@@ -7,7 +7,9 @@ mod divide;
 mod error;
 mod expr;
 mod program;
+mod read;
 mod token;
 
 pub use error::TextError;
+pub use read::{one_division, one_tree, read_or_refused, read_program};
 pub use token::{Keyword, Lexeme, Sign, Token};
