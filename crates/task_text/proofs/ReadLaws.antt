@@ -22,10 +22,10 @@ use Rattle.task_text.proofs.DivisionLaws as division
 use Rattle.task_text.proofs.ItemsSound.{program-sound}
 use Rattle.task_text.proofs.ItemsComplete.{program-complete}
 use Rattle.task_text.proofs.Stays.{program-place}
-use Rattle.task_text.proofs.TokenLaws.{not_found}
+use Rattle.task_text.proofs.TokenLaws.{not_found, same_found}
 
 pub one_program : (tokens : List Token) (p q : Program) → IsProgram p tokens → IsProgram q tokens → p ≡ q
-one_program tokens p q h k = let e : found p [] ≡ found q [] = sym (program-complete p tokens h) ∙ program-complete q tokens k in cc
+one_program tokens p q h k = let e : found p [] ≡ found q [] = sym (program-complete p tokens h) ∙ program-complete q tokens k in ap (λ (f : Found Program). f.value) (same_found (record { value = p; rest = [] }) q [] e)
 
 abbrev tokens_in : List Piece → List Token
 tokens_in ps = tokens_of start ps
@@ -129,3 +129,13 @@ result-from text d (Err (Syntax at)) i n h = inr (record {
 
 pub wide-result : (text : List ℕ) (d : Divided) (at : Pos) → IsDivided text d → IsFirstTooWide d.tokens at → IsResult text (Err (NumberTooWide at))
 wide-result text d at i w = record { pieces = i.pieces; divides = i.divides; first = subst (λ ts. IsFirstTooWide ts at) i.tokens w }
+
+pub wide-found : (tokens : List Token) (i : ℕ) (t : Token) → i < length tokens → t ≡ get_or tokens i t → AllByRecursion IsNarrow (take i tokens) → is_too_wide t.lexeme ≡ true → IsFirstTooWide tokens t.at
+wide-found tokens i t h e n w = record {
+  front = take i tokens; token = t; back = drop (suc i) tokens;
+  whole = sym (take-append-drop i tokens) ∙ ap (λ xs. take i tokens ++ xs) (drop-cons tokens i t h ∙ ap (λ x. x ∷ drop (suc i) tokens) (sym e));
+  narrow = n; wide = wide-is t.lexeme w; place = refl;
+}
+
+pub read-result : (text : List ℕ) (d : Divided) (r : Result Program TextError) (scanned tokens : List Token) → IsDivided text d → scanned ≡ d.tokens → AllByRecursion IsNarrow scanned → tokens ≡ d.tokens → IsReading tokens d.end r → IsResult text r
+read-result text d r scanned tokens i e n f h = result-from text d r i (subst (AllByRecursion IsNarrow) e n) (subst (λ ts. IsReading ts d.end r) f h)
