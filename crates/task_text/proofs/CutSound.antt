@@ -77,7 +77,10 @@ run-cuts b bs run c e r h =
     let tail = take_while is_word_byte bs in
     let t = run-token b tail m.0 (subst (λ ys. list_all is_word_byte ys ≡ true) e r.passes) (subst (λ ys. run_lexeme b ys ≡ Some m.0) e m.1) (cases_Bool (is_ascii_digit b)) in
     subst (CutsOff (b ∷ bs)) m.2 (record {
-      bytes = run; rest = r.rest; whole = r.whole; len = refl;
+      bytes = run;
+      rest = r.rest;
+      whole = r.whole;
+      len = refl;
       some = subst (λ ys. 0 < length ys) (sym e) (omega arith);
       fits = (subst (λ ys. Spells ys m.0) (sym e) t.0, t.1 r.rest r.stops);
     })
@@ -100,7 +103,8 @@ line_cut-sound text more c e h =
     let r = take_while_run p more in
     let run : take_while p (47 ∷ 47 ∷ more) ≡ 47 ∷ 47 ∷ take_while p more = take_while-cons p 47 (47 ∷ more) ∙ ap (λ ys. 47 ∷ ys) (take_while-cons p 47 more) in
     subst (CutsOff text) (same_Some _ c h) (record {
-      bytes = 47 ∷ 47 ∷ take_while p more; rest = r.rest;
+      bytes = 47 ∷ 47 ∷ take_while p more;
+      rest = r.rest;
       whole = e ∙ ap (λ ys. 47 ∷ 47 ∷ ys) r.whole;
       len = ap (λ ys. length (take_while p ys)) e ∙ ap length run;
       some = omega arith;
@@ -144,7 +148,8 @@ block_cut-sound text more c e h =
     let m = mapped_some (λ n. blank (n + 2)) (end_len more) c h in
     let r = end_len-sound more m.0 m.1 in
     subst (CutsOff text) m.2 (record {
-      bytes = 47 ∷ 42 ∷ (r.body ++ codes "*/"); rest = r.rest;
+      bytes = 47 ∷ 42 ∷ (r.body ++ codes "*/");
+      rest = r.rest;
       whole = e ∙ ap (λ ys. 47 ∷ 42 ∷ ys) (r.whole ∙ sym (append_assoc r.body (codes "*/") r.rest));
       len = omega (arith, r.len, length-append r.body (codes "*/"));
       some = omega arith;
@@ -189,7 +194,11 @@ sign_cut-sound text c n h =
     let rest = drop (length (marks m.0)) text in
     let e = sign_of-sound text m.0 m.1 in
     subst (CutsOff text) m.2 (record {
-      bytes = marks m.0; rest = rest; whole = e; len = refl; some = sign_some m.0;
+      bytes = marks m.0;
+      rest = rest;
+      whole = e;
+      len = refl;
+      some = sign_some m.0;
       fits = (refl, sign_of-stands m.0 rest (subst (λ t. sign_of t ≡ Some m.0) e m.1) (subst NoComment e n));
     })
 

@@ -72,7 +72,10 @@ Progress-more text tokens at rest c r h =
 
 pub Progress-stuck : (text : List ℕ) (tokens : List Token) (at : Pos) (rest : List ℕ) → Progress text tokens at rest → rest ≢ [] → first_cut rest ≡ None → BreaksAt text at
 Progress-stuck text tokens at rest r some h = record {
-  pieces = r.pieces; rest = rest; begins = r.begins; place = r.place;
+  pieces = r.pieces;
+  rest = rest;
+  begins = r.begins;
+  place = r.place;
   stuck = record { some = some; none = λ bytes more lexeme e f. none-some _ (sym h ∙ piece-cut rest more (record { bytes = bytes; lexeme = lexeme }) e f) };
 }
 

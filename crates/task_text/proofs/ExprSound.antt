@@ -132,8 +132,8 @@ unfolding part_at expr_at
 sound-next n s = record {
   parts = λ ts us d h. part-cases n ts us d s.exprs h (cases_Bool (begins_sign sign.ParenOpen ts));
   exprs = λ ts us d h.
-    let left = bind_found (part_of (expr_at n) ts) _ d us h in
-    sum-sound n (part_at n) s.parts (suc n) ts left.0.rest us left.0.value d (part-cases n ts left.0.rest left.0.value s.exprs left.1 (cases_Bool (begins_sign sign.ParenOpen ts)) 0) left.2;
+      let left = bind_found (part_of (expr_at n) ts) _ d us h in
+      sum-sound n (part_at n) s.parts (suc n) ts left.0.rest us left.0.value d (part-cases n ts left.0.rest left.0.value s.exprs left.1 (cases_Bool (begins_sign sign.ParenOpen ts)) 0) left.2;
 }
 
 sound : (n : ℕ) → Sound n

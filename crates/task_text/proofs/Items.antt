@@ -48,9 +48,10 @@ Items-more {T} begins item old front x ts us ends takes r h e = go r.more r.room
   go : (more : ℕ) → length ts ≤ more → many (length old) begins item old ≡ with_front front (many more begins item ts) → Items begins item old (front ++ x ∷ []) us
   go zero room same = absurd (let k : 0 < length ts = some-left begins ts ends h in let l : ⊥ = omega arith in l)
   go (suc more) room same = record {
-    more = more; room = omega (arith, takes ts us x e);
+    more = more;
+    room = omega (arith, takes ts us x e);
     same = same ∙ ap (with_front front) (many-step more begins item ts h ∙ ap (λ r. r >>= λ y. many more begins item y.rest >>= λ ys. found (y.value ∷ ys.value) ys.rest) e)
-      ∙ front-more front x (many more begins item us);
+        ∙ front-more front x (many more begins item us);
   }
 
 pub Items-break : {T : Type 0} (begins : List Token → Bool) (item : List Token → Outcome T) (old : List Token) (front : List T) (ts us : List Token) → begins [] ≡ false → Items begins item old front ts → begins ts ≡ true → item ts ≡ Err us → many (length old) begins item old ≡ Err us

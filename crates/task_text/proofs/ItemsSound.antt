@@ -54,7 +54,7 @@ decl-sound ts us d h =
     off-found IsDecl ts _ d us (record {
       front = reserved keyword.Nv a.0.value ∷ reserved keyword.Word b.0.value ∷ name x.0.value ∷ (i.front ++ symbol sign.Semicolon c.0.value ∷ []);
       split = reserved-sound keyword.Nv ts a.0.rest a.0.value a.1 ∙ ap (λ xs. reserved keyword.Nv a.0.value ∷ xs) (reserved-sound keyword.Word a.0.rest b.0.rest b.0.value b.1 ∙ ap (λ xs. reserved keyword.Word b.0.value ∷ xs) (name-sound b.0.rest x.0.rest x.0.value x.1
-        ∙ ap (λ xs. name x.0.value ∷ xs) (i.split ∙ ap (λ xs. i.front ++ xs) (sign-sound sign.Semicolon v.0.rest c.0.rest c.0.value c.1) ∙ sym (append_assoc i.front (symbol sign.Semicolon c.0.value ∷ []) c.0.rest))));
+          ∙ ap (λ xs. name x.0.value ∷ xs) (i.split ∙ ap (λ xs. i.front ++ xs) (sign-sound sign.Semicolon v.0.rest c.0.rest c.0.value c.1) ∙ sym (append_assoc i.front (symbol sign.Semicolon c.0.value ∷ []) c.0.rest))));
       fits = (a.0.value, b.0.value, c.0.value, i.front, refl, refl, i.fits);
     }) c.2
 
@@ -69,7 +69,7 @@ stmt-sound ts us s h =
     off-found IsStmt ts _ s us (record {
       front = name x.0.value ∷ symbol sign.Equal a.0.value ∷ (r.front ++ symbol sign.Semicolon b.0.value ∷ []);
       split = name-sound ts x.0.rest x.0.value x.1 ∙ ap (λ xs. name x.0.value ∷ xs) (sign-sound sign.Equal x.0.rest a.0.rest a.0.value a.1
-        ∙ ap (λ xs. symbol sign.Equal a.0.value ∷ xs) (r.split ∙ ap (λ xs. r.front ++ xs) (sign-sound sign.Semicolon e.0.rest b.0.rest b.0.value b.1) ∙ sym (append_assoc r.front (symbol sign.Semicolon b.0.value ∷ []) b.0.rest)));
+          ∙ ap (λ xs. symbol sign.Equal a.0.value ∷ xs) (r.split ∙ ap (λ xs. r.front ++ xs) (sign-sound sign.Semicolon e.0.rest b.0.rest b.0.value b.1) ∙ sym (append_assoc r.front (symbol sign.Semicolon b.0.value ∷ []) b.0.rest)));
       fits = (a.0.value, b.0.value, r.front, refl, (r.fits, omega (arith, r.deep, r.within)));
     }) b.2
 
@@ -84,8 +84,8 @@ next-sound ts us e h =
     off-found IsExit ts _ e us (record {
       front = reserved keyword.Next a.0.value ∷ symbol sign.ParenOpen b.0.value ∷ name x.0.value ∷ symbol sign.ParenClose c.0.value ∷ symbol sign.Semicolon d.0.value ∷ [];
       split = reserved-sound keyword.Next ts a.0.rest a.0.value a.1 ∙ ap (λ xs. reserved keyword.Next a.0.value ∷ xs) (sign-sound sign.ParenOpen a.0.rest b.0.rest b.0.value b.1
-        ∙ ap (λ xs. symbol sign.ParenOpen b.0.value ∷ xs) (name-sound b.0.rest x.0.rest x.0.value x.1 ∙ ap (λ xs. name x.0.value ∷ xs) (sign-sound sign.ParenClose x.0.rest c.0.rest c.0.value c.1
-        ∙ ap (λ xs. symbol sign.ParenClose c.0.value ∷ xs) (sign-sound sign.Semicolon c.0.rest d.0.rest d.0.value d.1))));
+          ∙ ap (λ xs. symbol sign.ParenOpen b.0.value ∷ xs) (name-sound b.0.rest x.0.rest x.0.value x.1 ∙ ap (λ xs. name x.0.value ∷ xs) (sign-sound sign.ParenClose x.0.rest c.0.rest c.0.value c.1
+          ∙ ap (λ xs. symbol sign.ParenClose c.0.value ∷ xs) (sign-sound sign.Semicolon c.0.rest d.0.rest d.0.value d.1))));
       fits = (a.0.value, b.0.value, c.0.value, d.0.value, refl);
     }) d.2
 
@@ -147,7 +147,7 @@ task-sound ts us t h =
     off-found (λ t xs. IsTask t xs) ts _ t us (record {
       front = reserved keyword.Task a.0.value ∷ name x.0.value ∷ symbol sign.BraceOpen b.0.value ∷ (s.front ++ (o.front ++ close ∷ []));
       split = reserved-sound keyword.Task ts a.0.rest a.0.value a.1 ∙ ap (λ xs. reserved keyword.Task a.0.value ∷ xs) (name-sound a.0.rest x.0.rest x.0.value x.1 ∙ ap (λ xs. name x.0.value ∷ xs) (sign-sound sign.BraceOpen x.0.rest b.0.rest b.0.value b.1
-        ∙ ap (λ xs. symbol sign.BraceOpen b.0.value ∷ xs) (s.split ∙ ap (λ xs. s.front ++ xs) (o.split ∙ ap (λ xs. o.front ++ xs) (sign-sound sign.BraceClose e.0.rest c.0.rest c.0.value c.1) ∙ sym (append_assoc o.front (close ∷ []) c.0.rest)) ∙ sym (append_assoc s.front (o.front ++ close ∷ []) c.0.rest))));
+          ∙ ap (λ xs. symbol sign.BraceOpen b.0.value ∷ xs) (s.split ∙ ap (λ xs. s.front ++ xs) (o.split ∙ ap (λ xs. o.front ++ xs) (sign-sound sign.BraceClose e.0.rest c.0.rest c.0.value c.1) ∙ sym (append_assoc o.front (close ∷ []) c.0.rest)) ∙ sym (append_assoc s.front (o.front ++ close ∷ []) c.0.rest))));
       fits = record { at_task = a.0.value; at_brace = b.0.value; body = s.front; ending = o.front; whole = refl; stmts = s.fits; exit = o.fits };
     }) c.2
 
@@ -157,9 +157,9 @@ some-tasks p ts us q h (inr some) (inr more) = absurd (not_found q us ts (sym (c
 some-tasks p ts us q h (inr some) (inl end) =
     let e = sym (cond-false (is_empty p.tasks) (Err ts) _ some ∙ cond-true (is_empty ts) (found p ts) (Err ts) end) ∙ h in
     (let k = eqb-false (length p.tasks) 0 some in omega arith, empty ts (eqb-true (length ts) 0 end), ap (λ (f : Found Program). f.value) (same_found (record { value = p; rest = ts }) q us e)) where
-  empty : (ts : List Token) → length ts ≡ 0 → ts ≡ []
-  empty [] h = refl
-  empty (t ∷ ts) h = absurd (let k : ⊥ = omega arith in k)
+      empty : (ts : List Token) → length ts ≡ 0 → ts ≡ []
+      empty [] h = refl
+      empty (t ∷ ts) h = absurd (let k : ⊥ = omega arith in k)
 
 pub program-sound : (ts us : List Token) (p : Program) → program_at ts ≡ found p us → IsProgram p ts
 unfolding program_at
@@ -171,9 +171,12 @@ program-sound ts us p h =
     let made : Program = record { decls = ds.0.value; tasks = tasks.0.value } in
     let w = some-tasks made tasks.0.rest us p tasks.2 (cases_Bool (eqb (length tasks.0.value) 0)) (cases_Bool (eqb (length tasks.0.rest) 0)) in
     subst (λ (q : Program). IsProgram q ts) w.2 (record {
-      front = d.front; back = t.front;
+      front = d.front;
+      back = t.front;
       whole = d.split ∙ ap (λ xs. d.front ++ xs) (t.split ∙ ap (λ xs. t.front ++ xs) w.1 ∙ append-nil t.front);
-      decls = d.fits; tasks = t.fits; some = w.0;
+      decls = d.fits;
+      tasks = t.fits;
+      some = w.0;
     })
 
 -- each item takes a token

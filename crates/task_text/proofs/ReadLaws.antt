@@ -122,7 +122,9 @@ result-from text d (Ok p) i n h = record { pieces = i.pieces; divides = i.divide
 result-from text d (Err NoMemory) i n h = tt
 result-from text d (Err (NumberTooWide at)) i n h = absurd h
 result-from text d (Err (Syntax at)) i n h = inr (record {
-  pieces = i.pieces; divides = i.divides; narrow = subst (AllByRecursion IsNarrow) i.tokens n;
+  pieces = i.pieces;
+  divides = i.divides;
+  narrow = subst (AllByRecursion IsNarrow) i.tokens n;
   none = subst (λ ts. (p : Program) → IsProgram p ts → ⊥) i.tokens h.0;
   place = subst (λ ts. IsPlaceAmong ts (end_of start i.pieces) at) i.tokens (subst (λ e. IsPlaceAmong d.tokens e at) i.end h.1);
 })
@@ -132,9 +134,13 @@ wide-result text d at i w = record { pieces = i.pieces; divides = i.divides; fir
 
 pub wide-found : (tokens : List Token) (i : ℕ) (t : Token) → i < length tokens → t ≡ get_or tokens i t → AllByRecursion IsNarrow (take i tokens) → is_too_wide t.lexeme ≡ true → IsFirstTooWide tokens t.at
 wide-found tokens i t h e n w = record {
-  front = take i tokens; token = t; back = drop (suc i) tokens;
+  front = take i tokens;
+  token = t;
+  back = drop (suc i) tokens;
   whole = sym (take-append-drop i tokens) ∙ ap (λ xs. take i tokens ++ xs) (drop-cons tokens i t h ∙ ap (λ x. x ∷ drop (suc i) tokens) (sym e));
-  narrow = n; wide = wide-is t.lexeme w; place = refl;
+  narrow = n;
+  wide = wide-is t.lexeme w;
+  place = refl;
 }
 
 pub read-result : (text : List ℕ) (d : Divided) (r : Result Program TextError) (scanned tokens : List Token) → IsDivided text d → scanned ≡ d.tokens → AllByRecursion IsNarrow scanned → tokens ≡ d.tokens → IsReading tokens d.end r → IsResult text r

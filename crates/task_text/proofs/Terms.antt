@@ -22,7 +22,8 @@ pub Terms-none : (allowed : ℕ) (old : List Token) (left : Deep) (ts : List Tok
 unfolding part_at expr_at
 Terms-none zero old left ts e = absurd (not_found e)
 Terms-none (suc n) old left ts e = record {
-  more = suc n; room = omega arith;
+  more = suc n;
+  room = omega arith;
   same = ap (λ r. r >>= λ x. sum_from (suc n) (suc n) (part_at n) x.value x.rest) e ∙ ap (λ m. sum_from (suc n) (suc n) (part_at m) left ts) (let k : n ≡ suc n - 1 = omega arith in k);
 }
 
@@ -36,10 +37,11 @@ Terms-more allowed old left right ts us vs at t plus h e f = go t.more t.room t.
   go : (more : ℕ) → allowed ≤ more + left.depth → expr_at allowed old ≡ sum_from more allowed (part_at (allowed - 1)) left ts → Terms allowed old (sum left right) vs
   go zero room same = absurd (let k : ⊥ = omega arith in k)
   go (suc more) room same = record {
-    more = more; room = omega arith;
+    more = more;
+    room = omega arith;
     same = same ∙ sum-step more allowed (part_at (allowed - 1)) left ts plus h
-      ∙ ap (λ r. r >>= λ a. part_at (allowed - 1) a.rest >>= λ right. sum_from more allowed (part_at (allowed - 1)) (sum left right.value) right.rest) e
-      ∙ ap (λ r. r >>= λ right. sum_from more allowed (part_at (allowed - 1)) (sum left right.value) right.rest) f;
+        ∙ ap (λ r. r >>= λ a. part_at (allowed - 1) a.rest >>= λ right. sum_from more allowed (part_at (allowed - 1)) (sum left right.value) right.rest) e
+        ∙ ap (λ r. r >>= λ right. sum_from more allowed (part_at (allowed - 1)) (sum left right.value) right.rest) f;
   }
 
 pub Terms-no_part : (allowed : ℕ) (old : List Token) (left : Deep) (ts us vs : List Token) (at : Pos) → Terms allowed old left ts → begins_sign Plus ts ≡ true → left.depth < allowed → sign_at Plus ts ≡ found at us → part_at (allowed - 1) us ≡ Err vs → expr_at allowed old ≡ Err vs
@@ -47,15 +49,15 @@ Terms-no_part allowed old left ts us vs at t plus h e f = go t.more t.room t.sam
   go : (more : ℕ) → allowed ≤ more + left.depth → expr_at allowed old ≡ sum_from more allowed (part_at (allowed - 1)) left ts → expr_at allowed old ≡ Err vs
   go zero room same = absurd (let k : ⊥ = omega arith in k)
   go (suc more) room same = same ∙ sum-step more allowed (part_at (allowed - 1)) left ts plus h
-    ∙ ap (λ r. r >>= λ a. part_at (allowed - 1) a.rest >>= λ right. sum_from more allowed (part_at (allowed - 1)) (sum left right.value) right.rest) e
-    ∙ ap (λ r. r >>= λ right. sum_from more allowed (part_at (allowed - 1)) (sum left right.value) right.rest) f
+      ∙ ap (λ r. r >>= λ a. part_at (allowed - 1) a.rest >>= λ right. sum_from more allowed (part_at (allowed - 1)) (sum left right.value) right.rest) e
+      ∙ ap (λ r. r >>= λ right. sum_from more allowed (part_at (allowed - 1)) (sum left right.value) right.rest) f
 
 pub Terms-no_sign : (allowed : ℕ) (old : List Token) (left : Deep) (ts us : List Token) → Terms allowed old left ts → begins_sign Plus ts ≡ true → left.depth < allowed → sign_at Plus ts ≡ Err us → expr_at allowed old ≡ Err us
 Terms-no_sign allowed old left ts us t plus h e = go t.more t.room t.same where
   go : (more : ℕ) → allowed ≤ more + left.depth → expr_at allowed old ≡ sum_from more allowed (part_at (allowed - 1)) left ts → expr_at allowed old ≡ Err us
   go zero room same = absurd (let k : ⊥ = omega arith in k)
   go (suc more) room same = same ∙ sum-step more allowed (part_at (allowed - 1)) left ts plus h
-    ∙ ap (λ r. r >>= λ a. part_at (allowed - 1) a.rest >>= λ right. sum_from more allowed (part_at (allowed - 1)) (sum left right.value) right.rest) e
+      ∙ ap (λ r. r >>= λ a. part_at (allowed - 1) a.rest >>= λ right. sum_from more allowed (part_at (allowed - 1)) (sum left right.value) right.rest) e
 
 pub Terms-too_deep : (allowed : ℕ) (old : List Token) (left : Deep) (ts : List Token) → Terms allowed old left ts → begins_sign Plus ts ≡ true → allowed ≤ left.depth → expr_at allowed old ≡ Err ts
 unfolding sum_from

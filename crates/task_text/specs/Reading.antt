@@ -153,9 +153,9 @@ unfoldable pub sum_from : ℕ → ℕ → (List Token → Outcome Deep) → Deep
 sum_from zero allowed part left ts = if begins_sign sign.Plus ts then Err ts else found left ts
 sum_from (suc more) allowed part left ts =
     if begins_sign sign.Plus ts then
-      (if nat_lt left.depth allowed then
-        (sign_at sign.Plus ts >>= λ a. part a.rest >>= λ right. sum_from more allowed part (sum left right.value) right.rest)
-      else Err ts)
+    (if nat_lt left.depth allowed then
+    (sign_at sign.Plus ts >>= λ a. part a.rest >>= λ right. sum_from more allowed part (sum left right.value) right.rest)
+    else Err ts)
     else found left ts
 
 -- a part and an expression that are at most so deep

@@ -8,6 +8,8 @@ mod error;
 mod expr;
 mod program;
 mod read;
+#[cfg(test)]
+mod tests;
 mod token;
 
 pub use error::TextError;

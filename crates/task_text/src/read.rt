@@ -86,17 +86,14 @@ pub fn read_program(alloc: Global, text: &[u8]) -> Result<Program, TextError>
 /// A text divides into tokens in at most one way.
 pub fn one_division()
     ensures { (text : List ℕ) (ps qs : List Piece) → Divides text ps → Divides text qs → ps ≡ qs }
-{
-}
+{}
 
 /// A text is at most one program.
 pub fn one_tree()
     ensures { (text : List ℕ) (p q : Program) → Reads text p → Reads text q → p ≡ q }
-{
-}
+{}
 
 /// No text is both a program and refused.
 pub fn read_or_refused()
     ensures { (text : List ℕ) (p : Program) (e : TextError) → Reads text p → Refuses text e → ⊥ }
-{
-}
+{}
