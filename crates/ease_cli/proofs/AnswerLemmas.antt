@@ -1,0 +1,56 @@
+-- From what is said of a tree to what is said of its source, and on to what the command line says.
+use Rattle.std.proofs.Common.{◌≡◌, ℕ, ◌≤◌, Bool, List, Option, Some, Result, Ok, Err, IfOk, sym, subst, ◌∙◌, ap}
+use Rattle.std.proofs.lemmas.Result.{IfOk-weaker}
+use Rattle.ease_base.specs.Cabinet.{Contents}
+use Rattle.ease_base.specs.Sink.{extended}
+use Rattle.task_ast.specs.declared.tree.Program.{Program}
+use Rattle.task_text.specs.declared.error.TextError.{TextError}
+use Rattle.task_text.specs.Reads.{Reads, Refuses}
+use Rattle.ease_cli.specs.declared.status.Status.{Status}
+use Rattle.ease_cli.specs.declared.status.Status.TheVariants as status
+use Rattle.ease_cli.specs.Answer.{ProgramSays, SourceSays, Says, Writes, IsSource, IsWalkText, IsSourceLine, unread, unaccepted, OfSource}
+use Rattle.ease_cli.specs.Lines.{text_line}
+
+-- what is said of the tree that reads a source is said of the source
+pub source-from_program : (source : List ℕ) (program : Program) (tasks : ℕ) (s : Status) (text : List ℕ) → Reads source program → ProgramSays program tasks s text → SourceSays source tasks s text
+source-from_program source program tasks status.Ok text reads said =
+    record { program = program; reads = reads; accepted = said.0; written = said.1 }
+source-from_program source program tasks status.SourceRefused text reads said = unaccepted program said.0 reads said.1 said.2
+source-from_program source program tasks status.Usage text reads said = said
+source-from_program source program tasks status.ReadFault text reads said = said
+source-from_program source program tasks status.WriteFault text reads said = said
+source-from_program source program tasks status.TooLong text reads said = said
+source-from_program source program tasks status.NoMemory text reads said = said
+
+-- a refused text with its line
+pub source-from_refusal : (source : List ℕ) (tasks : ℕ) (fault : TextError) (s : Status) (text : List ℕ) → Refuses source fault → s ≡ status.SourceRefused → text ≡ text_line fault → SourceSays source tasks s text
+source-from_refusal source tasks fault s text refuses is line =
+    subst (λ (x : Status). SourceSays source tasks x text) (sym is) (unread fault refuses line)
+
+-- what is said of the source that the words name is what the command line says
+pub says-from_source : (words : List (List ℕ)) (told : Bool) (contents : Contents) (tasks : ℕ) (source : List ℕ) (s : Status) (text : List ℕ) → IsSource words told contents tasks source → SourceSays source tasks s text → Says words told contents s text
+says-from_source words told contents tasks source status.Ok text is said = record { tasks = tasks; source = source; is = is; said = said }
+says-from_source words told contents tasks source status.SourceRefused text is said = record { tasks = tasks; source = source; is = is; said = said }
+says-from_source words told contents tasks source status.Usage text is said = absurd said
+says-from_source words told contents tasks source status.ReadFault text is said = absurd said
+says-from_source words told contents tasks source status.WriteFault text is said = said
+says-from_source words told contents tasks source status.TooLong text is said = absurd said
+says-from_source words told contents tasks source status.NoMemory text is said = said
+
+-- the same through the result that carries the line
+pub refusal-says : {A E : Type 0} (status_of : A → Status) (text_of : A → List ℕ) (source : List ℕ) (tasks : ℕ) (fault : TextError) (line : Result (List ℕ) E) (r : Result A E) → Refuses source fault → IfOk line (λ text. text ≡ text_line fault) → IfOk r (λ a. (status_of a ≡ status.SourceRefused) × (line ≡ Ok (text_of a))) → IfOk r (λ a. SourceSays source tasks (status_of a) (text_of a))
+refusal-says status_of text_of source tasks fault (Ok text) (Ok a) refuses is made =
+    source-from_refusal source tasks fault (status_of a) (text_of a) refuses made.0 (let same : text ≡ text_of a = cc in sym same ∙ is)
+refusal-says status_of text_of source tasks fault (Err e) (Ok a) refuses is made = absurd (let made' = made.1 in cc)
+refusal-says status_of text_of source tasks fault (Ok text) (Err e) refuses is made = made
+refusal-says status_of text_of source tasks fault (Err d) (Err e) refuses is made = made
+
+-- what is said and then written whole is what a command writes
+pub writes-whole : (words : List (List ℕ)) (told : Bool) (contents : Contents) (s : Status) (text : List ℕ) (before after : Option (List ℕ)) → Says words told contents s text → after ≡ extended before text → Writes (Says words told contents) s before after
+writes-whole words told contents status.Ok text before after said is = (text, said, is)
+writes-whole words told contents status.SourceRefused text before after said is = (text, said, is)
+writes-whole words told contents status.Usage text before after said is = (text, said, is)
+writes-whole words told contents status.ReadFault text before after said is = (text, said, is)
+writes-whole words told contents status.TooLong text before after said is = (text, said, is)
+writes-whole words told contents status.WriteFault text before after said is = absurd said
+writes-whole words told contents status.NoMemory text before after said is = absurd said

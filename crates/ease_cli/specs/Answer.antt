@@ -1,0 +1,104 @@
+-- What a command line says: a status, and the bytes that are written with it.
+use Rattle.std.specs.Prelude.{◌≡◌, ◌⊎◌, ℕ, ◌<◌, ◌≤◌, Bool, IsTrue, List, [], length, Option, Some}
+use Rattle.ease_base.specs.Cabinet.{Contents, Brings, Lacks}
+use Rattle.ease_base.specs.Count.{HasRisen}
+use Rattle.ease_base.specs.Sink.{extended, TookFront}
+use Rattle.task_ast.specs.declared.tree.Program.{Program}
+use Rattle.task_text.specs.declared.error.TextError.{TextError}
+use Rattle.task_text.specs.Reads.{Reads, Refuses}
+use Rattle.task_check.specs.declared.error.CheckError.{CheckError}
+use Rattle.task_check.specs.CheckedForm.{core_of}
+use Rattle.task_check.specs.Faults.{Accepted, first_fault}
+use Rattle.walk_run.specs.Walk.{walk_of}
+use Rattle.walk_run.specs.WalkText.{text_of}
+use Rattle.ease_cli.specs.declared.status.Status.{Status}
+use Rattle.ease_cli.specs.declared.status.Status.TheVariants.{Ok, Usage, SourceRefused, ReadFault, WriteFault, TooLong, NoMemory}
+use Rattle.ease_cli.specs.Form.{IsWalk, IsNoCommand}
+use Rattle.ease_cli.specs.Lines.{usage, read_fault, too_long, text_line, check_line}
+
+-- The text is that of the unbroken run, of at most so many tasks, of the checked form of the tree that
+-- reads the source.
+pub record IsWalkText (source : List ℕ) (tasks : ℕ) (text : List ℕ) : Type 0 where
+  pub program : Program
+  pub reads : Reads source program
+  pub accepted : Accepted program
+  pub written : text ≡ text_of (core_of program) (walk_of (core_of program) [] tasks)
+
+-- The text is the line of the source's fault: no tree reads it, or its tree isn't accepted.
+pub data IsSourceLine (source text : List ℕ) : Type 0 where
+  unread : (fault : TextError) → Refuses source fault → text ≡ text_line fault → IsSourceLine source text
+  unaccepted : (program : Program) (fault : CheckError) → Reads source program → first_fault program ≡ Some fault → text ≡ check_line fault → IsSourceLine source text
+
+-- what is said of a tree that was read
+abbrev pub ProgramSays : Program → ℕ → Status → List ℕ → Type 0
+ProgramSays program tasks Ok text = Accepted program × (text ≡ text_of (core_of program) (walk_of (core_of program) [] tasks))
+ProgramSays program tasks SourceRefused text = (fault : CheckError) × (first_fault program ≡ Some fault) × (text ≡ check_line fault)
+ProgramSays program tasks _ text = ⊥
+
+-- what is said of a source
+abbrev pub SourceSays : List ℕ → ℕ → Status → List ℕ → Type 0
+SourceSays source tasks Ok text = IsWalkText source tasks text
+SourceSays source tasks SourceRefused text = IsSourceLine source text
+SourceSays source tasks _ text = ⊥
+
+-- The words ask to walk a file, whose contents are the source where contents are told, and which isn't
+-- longer than its limit.
+pub record IsSource (words : List (List ℕ)) (told : Bool) (contents : Contents) (tasks : ℕ) (source : List ℕ) : Type 0 where
+  pub file : List ℕ
+  pub asked : IsWalk words file tasks
+  pub brought : Brings told contents file source
+  pub short : length source ≤ 65536
+
+-- something is said of the source that the words name
+pub record OfSource (words : List (List ℕ)) (told : Bool) (contents : Contents) (says : ℕ → List ℕ → Type 0) : Type 0 where
+  pub tasks : ℕ
+  pub source : List ℕ
+  pub is : IsSource words told contents tasks source
+  pub said : says tasks source
+
+-- the words are a command
+pub record IsCommand (words : List (List ℕ)) : Type 0 where
+  pub file : List ℕ
+  pub tasks : ℕ
+  pub asked : IsWalk words file tasks
+
+-- what a command line says
+abbrev pub Says : List (List ℕ) → Bool → Contents → Status → List ℕ → Type 0
+Says words told contents Ok text = OfSource words told contents (λ tasks source. IsWalkText source tasks text)
+Says words told contents SourceRefused text = OfSource words told contents (λ tasks source. IsSourceLine source text)
+Says words told contents Usage text = IsNoCommand words × (text ≡ usage)
+Says words told contents ReadFault text = IsCommand words × (text ≡ read_fault)
+Says words told contents TooLong text = IsCommand words × (text ≡ too_long)
+Says words told contents WriteFault text = ⊥
+Says words told contents NoMemory text = ⊥
+
+-- What is written is what is said, and nothing else; after a write fault a front of something that is
+-- said, and after want of memory nothing.
+abbrev pub Writes : (Status → List ℕ → Type 0) → Status → Option (List ℕ) → Option (List ℕ) → Type 0
+Writes says WriteFault before after = (status : Status) × (text : List ℕ) × says status text × TookFront before after text
+Writes says NoMemory before after = after ≡ before
+Writes says status before after = (text : List ℕ) × says status text × (after ≡ extended before text)
+
+-- Why a file could not be fetched: the count of faults rose, or told contents lack the file.
+abbrev pub FetchFailed : List (List ℕ) → Bool → Contents → ℕ → ℕ → Type 0
+FetchFailed words told contents before after =
+    HasRisen before after ⊎ ((file : List ℕ) × (tasks : ℕ) × IsWalk words file tasks × Lacks told contents file)
+
+-- where contents are told, the file of the words is longer than its limit
+abbrev pub IsTooLong : List (List ℕ) → Bool → Contents → Type 0
+IsTooLong words told contents =
+    IsTrue told → (file : List ℕ) × (tasks : ℕ) × (bytes : List ℕ) × IsWalk words file tasks × (contents file ≡ Some bytes) × (65536 < length bytes)
+
+-- Nothing in the words and the files stands in the way of a walk: told contents have the file of the words,
+-- it isn't too long, a tree reads it, and the tree is accepted.
+pub record CanWalk (words : List (List ℕ)) (told : Bool) (contents : Contents) : Type 0 where
+  pub file : List ℕ
+  pub tasks : ℕ
+  pub asked : IsWalk words file tasks
+  pub tells : IsTrue told
+  pub source : List ℕ
+  pub there : contents file ≡ Some source
+  pub short : length source ≤ 65536
+  pub program : Program
+  pub reads : Reads source program
+  pub accepted : Accepted program

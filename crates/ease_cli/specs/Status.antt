@@ -1,0 +1,13 @@
+-- The exit status of each way to end.
+use Rattle.std.specs.Prelude.{ℕ}
+use Rattle.ease_cli.specs.declared.status.Status.{Status}
+use Rattle.ease_cli.specs.declared.status.Status.TheVariants.{Ok, Usage, SourceRefused, ReadFault, WriteFault, TooLong, NoMemory}
+
+abbrev pub number_of : Status → ℕ
+number_of Ok = 0
+number_of Usage = 1
+number_of SourceRefused = 2
+number_of ReadFault = 5
+number_of WriteFault = 6
+number_of TooLong = 7
+number_of NoMemory = 8

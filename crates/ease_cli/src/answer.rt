@@ -1,0 +1,135 @@
+//! What a command line says: a status, and the bytes that are written with it.
+ghost use Rattle.std.specs.Prelude.{◌≡◌, ◌≢◌, ℕ, List, ◌≤◌, IfOk, OnOk, length, map, string_bytes};
+ghost use Rattle.ease_base.specs.Count.{HasRisen};
+ghost use Rattle.ease_cli.specs.Answer.{Says, SourceSays, ProgramSays, CanWalk, FetchFailed, IsTooLong};
+ghost use Rattle.ease_cli.specs.Lines.{check_line};
+ghost use Rattle.task_ast.specs.Counters.{IsCounterProgram};
+ghost use Rattle.task_ast.specs.declared.tree.Program.{Program as Tree};
+ghost use Rattle.task_check.specs.Faults.{Accepted};
+ghost use Rattle.task_text.specs.Reads.{Reads};
+
+use crate::form::{WalkWords, walk_words};
+use crate::lines::{READ_FAULT, TOO_LONG, USAGE, limit_line, source_line, syntax_line};
+use crate::status::Status;
+use ease_base::{Cabinet, FetchError, NoMemory, Text};
+use std::alloc::Global;
+use task_ast::Program;
+use task_check::{CheckError, check};
+use task_text::{TextError, read_program};
+use walk_run::{walk, walk_text};
+
+/// The most bytes of a source.
+const SOURCE_LIMIT: usize = 65_536;
+
+/// A status and the bytes that are written with it.
+#[derive(Drop)]
+pub struct Answer {
+    pub status: Status,
+    pub text: Text,
+}
+
+/// The answer to a command line.
+pub fn command_answer<C: Cabinet>(
+    alloc: Global,
+    words: &[String],
+    files: &mut C,
+) -> Result<Answer, NoMemory>
+    ensures says { IfOk result (λ a. Says (map string_bytes words.now) (C.told files.old) (C.contents files.old) a.status a.text) }
+    ensures read_fault { IfOk result (λ a. a.status ≡ Status.ReadFault
+        → FetchFailed (map string_bytes words.now) (C.told files.old) (C.contents files.old) (C.faults files.old) (C.faults files.new)) }
+    ensures too_long { IfOk result (λ a. a.status ≡ Status.TooLong
+        → HasRisen (C.long_contents files.old) (C.long_contents files.new)) }
+    ensures longer { IfOk result (λ a. a.status ≡ Status.TooLong
+        → IsTooLong (map string_bytes words.now) (C.told files.old) (C.contents files.old)) }
+    ensures complete { CanWalk (map string_bytes words.now) (C.told files.old) (C.contents files.old)
+        → (HasRisen (C.faults files.old) (C.faults files.new) → ⊥) → IfOk result (λ a. a.status ≡ Status.Ok) }
+    ensures told { C.told files.new ≡ C.told files.old }
+    ensures contents { (name : List ℕ) → C.contents files.new name ≡ C.contents files.old name }
+    ensures faults { C.faults files.old ≤ C.faults files.new }
+{
+    let Some(WalkWords { program, tasks }) = walk_words(words) else {
+        return line(alloc, Status::Usage, USAGE);
+    };
+    let mut source = Vec::new(alloc);
+    match files.fetch(alloc, program, SOURCE_LIMIT, &mut source) {
+        Ok(()) => source_answer(alloc, source.as_slice(), tasks),
+        Err(FetchError::Failed) => line(alloc, Status::ReadFault, READ_FAULT),
+        Err(FetchError::TooLong) => line(alloc, Status::TooLong, TOO_LONG),
+        Err(FetchError::NoMemory) => Err(NoMemory),
+    }
+}
+
+/// The answer to `walk` on a source, for at most `tasks` tasks.
+fn source_answer(alloc: Global, source: &[u8], tasks: u32) -> Result<Answer, NoMemory>
+    requires short { length source.now ≤ 65536 }
+    requires few { tasks ≤ 1000 }
+    ensures says { IfOk result (λ a. SourceSays source.now tasks a.status a.text) }
+    ensures complete { (p : Tree) → Reads source.now p → Accepted p → IfOk result (λ a. a.status ≡ Status.Ok) }
+{
+    match read_program(alloc, source) {
+        Ok(program) => program_answer(alloc, &program, tasks),
+        Err(TextError::Syntax(at)) => refusal(syntax_line(alloc, at)),
+        Err(TextError::NumberTooWide(at)) => refusal(source_line(alloc, at, "number-too-wide")),
+        Err(TextError::NoMemory) => Err(NoMemory),
+    }
+}
+
+// The answer to `walk` on a tree that was read.
+fn program_answer(alloc: Global, program: &Program, tasks: u32) -> Result<Answer, NoMemory>
+    requires counters { IsCounterProgram program.now }
+    requires few { tasks ≤ 1000 }
+    ensures says { IfOk result (λ a. ProgramSays program.now tasks a.status a.text) }
+    ensures complete { Accepted program.now → IfOk result (λ a. a.status ≡ Status.Ok) }
+{
+    let core = match check(alloc, program) {
+        Ok(core) => core,
+        Err(fault) => return fault_answer(alloc, fault),
+    };
+    let walked = walk(alloc, &core, &[], tasks)?;
+    let text = walk_text(alloc, &core, &walked)?;
+    Ok(Answer {
+        status: Status::Ok,
+        text,
+    })
+}
+
+// The answer to a tree that isn't accepted.
+fn fault_answer(alloc: Global, fault: CheckError) -> Result<Answer, NoMemory>
+    ensures status { IfOk result (λ a. a.status ≡ Status.SourceRefused) }
+    ensures text { IfOk result (λ a. a.text ≡ check_line fault) }
+    ensures fault { OnOk result (fault ≢ CheckError.NoMemory) }
+{
+    let text = match fault {
+        CheckError::UnknownName(at) => source_line(alloc, at, "unknown-name")?,
+        CheckError::TwiceNamed(at) => source_line(alloc, at, "twice-named")?,
+        CheckError::WrongKind(at) => source_line(alloc, at, "wrong-kind")?,
+        CheckError::ConstWritten(at) => source_line(alloc, at, "const-written")?,
+        CheckError::DmaUnderIf(at) => source_line(alloc, at, "dma-under-if")?,
+        CheckError::TooMany(at) => source_line(alloc, at, "too-many")?,
+        CheckError::LimitReached(at, limit, count) => limit_line(alloc, at, limit, count)?,
+        CheckError::NoMemory => return Err(NoMemory),
+    };
+    Ok(Answer {
+        status: Status::SourceRefused,
+        text,
+    })
+}
+
+// A refusal of the source with its line.
+fn refusal(line: Result<Text, NoMemory>) -> Result<Answer, NoMemory>
+    ensures { IfOk result (λ a. (a.status ≡ Status.SourceRefused) × (line ≡ Ok a.text)) }
+{
+    let text = line?;
+    Ok(Answer {
+        status: Status::SourceRefused,
+        text,
+    })
+}
+
+// A status with its one line.
+fn line(alloc: Global, status: Status, text: &[u8]) -> Result<Answer, NoMemory>
+    ensures { IfOk result (λ a. (a.status ≡ status) × (a.text ≡ text.now)) }
+{
+    let text = Text::from_slice(alloc, text)?;
+    Ok(Answer { status, text })
+}

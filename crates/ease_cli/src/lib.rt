@@ -1,0 +1,13 @@
+//! The commands of `ease`: words, files and output, with the theorem on the one public call.
+#![tactic(auto)]
+
+mod answer;
+mod form;
+mod lines;
+mod status;
+#[cfg(test)]
+mod tests;
+mod top;
+
+pub use status::Status;
+pub use top::ease;

@@ -1,0 +1,6 @@
+use Rattle.task_text.proofs.DivisionLaws as division
+use Rattle.task_text.proofs.ReadLaws.{one_tree_law, not_both}
+use Rattle.task_text.proofs.read.one_tree.Goals as goal
+
+pub returns : goal.returns
+returns c = one_tree_law

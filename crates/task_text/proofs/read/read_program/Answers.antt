@@ -1,0 +1,13 @@
+use Rattle.task_text.proofs.CountersLaws.{counters-from}
+use Rattle.task_text.proofs.ReadLaws.{found-from, refused-from, only-from, breaks-from, wide-from}
+use Rattle.task_text.proofs.read.read_program.Goals as goal
+
+pub returns : goal.returns
+returns c = record {
+  found = found-from _ _ c.read.ensures;
+  only = only-from _ _ c.read.ensures;
+  refused = refused-from _ _ c.read.ensures;
+  breaks = breaks-from _ _ c.read.ensures;
+  wide = wide-from _ _ c.read.ensures;
+  counters = counters-from _ _ c.read.ensures;
+}

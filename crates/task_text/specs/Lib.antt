@@ -1,0 +1,7 @@
+pub mod Cutting
+pub mod Divided
+pub mod Division
+pub mod Grammar
+pub mod Reading
+pub mod Reads
+pub mod Spelling

@@ -1,0 +1,17 @@
+//! Reading: from the bytes of a program to its tree.
+#![tactic(auto)]
+
+mod cursor;
+mod cut;
+mod divide;
+mod error;
+mod expr;
+mod program;
+mod read;
+#[cfg(test)]
+mod tests;
+mod token;
+
+pub use error::TextError;
+pub use read::{one_division, one_tree, read_or_refused, read_program};
+pub use token::{Keyword, Lexeme, Sign, Token};

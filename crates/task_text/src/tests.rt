@@ -1,0 +1,193 @@
+//! Texts that are programs, texts that are none, and the refusal of each.
+use crate::{TextError, read_program};
+use ease_base::Pos;
+use std::alloc::Global;
+use std::process::Abort;
+use std::test::Fail;
+use task_ast::{Expr, Program, Stmt, Target};
+
+const fn syntax(line: u32, column: u32) -> TextError {
+    TextError::Syntax(Pos { line, column })
+}
+
+const fn wide(line: u32, column: u32) -> TextError {
+    TextError::NumberTooWide(Pos { line, column })
+}
+
+fn refusal(rt: &impl Abort, alloc: Global, text: &[u8]) -> Option<TextError> {
+    assert!(rt; text.len() < 100000);
+    match read_program(alloc, text) {
+        Ok(_) => None,
+        Err(error) => Some(error),
+    }
+}
+
+#[test]
+fn each_rule_of_the_grammar_broken_once(rt: HostRuntime) -> Result<(), Fail> {
+    let table: [(&[u8], TextError); 29] = [
+        (b"", syntax(1, 1)),
+        (b" ", syntax(1, 2)),
+        (b"// c", syntax(1, 5)),
+        (b"// c\n", syntax(2, 1)),
+        (b"nv word x = 1; nv word y = 2;", syntax(1, 30)),
+        (b"task a { STOP; } x", syntax(1, 18)),
+        (b"nv word;", syntax(1, 8)),
+        (b"nv x; task a { STOP; }", syntax(1, 4)),
+        (b"nv word x = y; task a { STOP; }", syntax(1, 13)),
+        (b"nv word x", syntax(1, 10)),
+        (b"word x; task a { STOP; }", syntax(1, 1)),
+        (b"task { STOP; }", syntax(1, 6)),
+        (b"task if { STOP; }", syntax(1, 6)),
+        (b"task a STOP; }", syntax(1, 8)),
+        (b"task a { }", syntax(1, 10)),
+        (b"task a { STOP }", syntax(1, 15)),
+        (b"task a { STOP; ", syntax(1, 16)),
+        (b"task a { NEXT a); }", syntax(1, 15)),
+        (b"task a { NEXT(); }", syntax(1, 15)),
+        (b"task a { NEXT(a; }", syntax(1, 16)),
+        (b"task a { NEXT(a) }", syntax(1, 18)),
+        (b"task a { x 1; STOP; }", syntax(1, 12)),
+        (b"task a { x = ; STOP; }", syntax(1, 14)),
+        (b"task a { x = 1 STOP; }", syntax(1, 16)),
+        (b"task a { x = (1; STOP; }", syntax(1, 16)),
+        (b"task a { x = 1 +; STOP; }", syntax(1, 17)),
+        (b"task a { x = 1 - 1; STOP; }", syntax(1, 16)),
+        (b"task a { x = 1 ++ 1; STOP; }", syntax(1, 16)),
+        (b"task a { STOP; x = 1; }", syntax(1, 16)),
+    ];
+    for (text, expected) in &table {
+        assert_eq!(rt;
+            refusal(&rt, rt.alloc(), text),
+            Some(*expected),
+            "in {text:?}"
+        );
+    }
+    Ok(())
+}
+
+#[test]
+fn bytes_that_are_no_tokens_come_before_wide_numbers_and_those_before_the_grammar(
+    rt: HostRuntime,
+) -> Result<(), Fail> {
+    let table: [(&[u8], TextError); 21] = [
+        (b"nv word x = 01; task a { STOP; }", syntax(1, 13)),
+        (b"nv word x = 0x; task a { STOP; }", syntax(1, 13)),
+        (b"nv word x = 12_; task a { STOP; }", syntax(1, 13)),
+        (b"nv word x = 0X1; task a { STOP; }", syntax(1, 13)),
+        (b"nv word x = 1a; task a { STOP; }", syntax(1, 13)),
+        (b"nv word x = 0x1g; task a { STOP; }", syntax(1, 13)),
+        (b"task a { STOP; } /* end", syntax(1, 18)),
+        (b"/*/", syntax(1, 1)),
+        (b"task a {\0 STOP; }", syntax(1, 9)),
+        (b"task \xc3\xa9 { STOP; }", syntax(1, 6)),
+        (b"task a { STOP; } // \xc3\xa9\n@", syntax(2, 1)),
+        (b"#", syntax(1, 1)),
+        (b"task a {\r\n\tx = 1 @;", syntax(2, 8)),
+        (b"\n\n @", syntax(3, 2)),
+        (b"\r@", syntax(1, 2)),
+        (b"nv word x = 4294967296; @", syntax(1, 25)),
+        (b"nv word x = 4294967296; task t { STOP; }", wide(1, 13)),
+        (b"nv word x = 0x100000000; task t { STOP; }", wide(1, 13)),
+        (
+            b"nv word x = 4294967296; nv word y = 99999999999999999999999;",
+            wide(1, 13),
+        ),
+        (b"nv nv 4294967296", wide(1, 7)),
+        (b"4294967296", wide(1, 1)),
+    ];
+    for (text, expected) in &table {
+        assert_eq!(rt;
+            refusal(&rt, rt.alloc(), text),
+            Some(*expected),
+            "in {text:?}"
+        );
+    }
+    Ok(())
+}
+
+/// `task a { x = `, so many of `open`, a 1, so many of `close`, and the end.
+fn repeated(alloc: Global, count: usize, open: &[u8], close: &[u8]) -> Result<Vec<u8>, Fail> {
+    let mut text = Vec::from_slice(alloc, b"task a { x = ")?;
+    for _ in 0..count {
+        text.extend_from_slice(open)?;
+    }
+    text.push(b'1')?;
+    for _ in 0..count {
+        text.extend_from_slice(close)?;
+    }
+    text.extend_from_slice(b"; STOP; }")?;
+    Ok(text)
+}
+
+#[test]
+fn an_expression_is_at_most_24_deep(rt: HostRuntime) -> Result<(), Fail> {
+    let alloc = rt.alloc();
+    let table: [(usize, &[u8], &[u8], Option<TextError>); 6] = [
+        (23, b"(", b")", None),
+        (24, b"(", b")", Some(syntax(1, 38))),
+        (9000, b"(", b")", Some(syntax(1, 38))),
+        (23, b"", b"+1", None),
+        (24, b"", b"+1", Some(syntax(1, 61))),
+        (9000, b"", b"+1", Some(syntax(1, 61))),
+    ];
+    for (count, open, close, expected) in &table {
+        let text = repeated(alloc, *count, open, close)?;
+        assert_eq!(rt;
+            refusal(&rt, alloc, &text),
+            *expected,
+            "{count} times {open:?}"
+        );
+    }
+    Ok(())
+}
+
+#[test]
+fn white_space_and_comments_stand_between_tokens(rt: HostRuntime) -> Result<(), Fail> {
+    let table: [&[u8]; 4] = [
+        b"/***/nv word x=0xFf;//c\r\ntask a{x=x+(1+2);STOP;}",
+        b"task\ta\r\n{/* // */NEXT/**/(a) ; } // the end",
+        b"task IOx { _ = 0 ; NEXT ( t1 ) ; } task t1 { STOP ; }",
+        b"task a{x=(1)+2+(y+4294967295);STOP;}/* * / */",
+    ];
+    for text in &table {
+        assert_eq!(rt; refusal(&rt, rt.alloc(), text), None, "in {text:?}");
+    }
+    Ok(())
+}
+
+fn is_sum_of_itself_and_one(program: &Program) -> bool {
+    let Some(task) = program.tasks.get(0) else {
+        return false;
+    };
+    let Some(Stmt::Assign(Target::Scalar(x), Expr::Two(_, left, right))) = task.body.get(0) else {
+        return false;
+    };
+    let Expr::Read(y) = left.get() else {
+        return false;
+    };
+    let Expr::Number(1, at) = right.get() else {
+        return false;
+    };
+    x.text.as_slice() == b"x".as_slice()
+        && y.text.as_slice() == b"x".as_slice()
+        && *at
+            == (Pos {
+                line: 1,
+                column: 42,
+            })
+        && task.close
+            == (Pos {
+                line: 1,
+                column: 51,
+            })
+}
+
+#[test]
+fn a_counter_is_read_to_its_tree(rt: HostRuntime) -> Result<(), Fail> {
+    let text = b"nv word x = 4294967295; task a { x = x + 1; STOP; }";
+    let program = read_program(rt.alloc(), text)?;
+    assert_eq!(rt; program.decls.len(), 1);
+    assert_eq!(rt; program.tasks.len(), 1);
+    assert!(rt; is_sum_of_itself_and_one(&program));
+    Ok(())
+}
