@@ -16,10 +16,10 @@ returns-in-Ok-clause-says c =
 
 pub returns-in-Err-Syntax-clause-says : goal.returns-in-Err-Syntax-clause-says
 returns-in-Err-Syntax-clause-says c =
-    let refused = (rw c.in-Err-Syntax.field-0-is at c.in-Err-Syntax.ensures.refused) (λ e. cc) in
+    let refused = rw c.in-Err-Syntax.field-0-is at c.in-Err-Syntax.ensures.refused in
     refusal-says (λ a. a.status) (λ a. a.text) c.args.source.now c.args.tasks (Syntax c.in-Err-Syntax.at) c.syntax_line.result c.refusal.result refused c.syntax_line.ensures c.refusal.ensures
 
 pub returns-in-Err-NumberTooWide-clause-says : goal.returns-in-Err-NumberTooWide-clause-says
 returns-in-Err-NumberTooWide-clause-says c =
-    let refused = (rw c.in-Err-NumberTooWide.field-0-is at c.in-Err-NumberTooWide.ensures.refused) (λ e. cc) in
+    let refused = rw c.in-Err-NumberTooWide.field-0-is at c.in-Err-NumberTooWide.ensures.refused in
     refusal-says (λ a. a.status) (λ a. a.text) c.args.source.now c.args.tasks (NumberTooWide c.in-Err-NumberTooWide.at) c.source_line.result c.refusal-in-Err-NumberTooWide.result refused c.source_line.ensures c.refusal-in-Err-NumberTooWide.ensures
