@@ -1,9 +1,9 @@
 -- A program that counts never traps and takes no reading.
-use Rattle.std.proofs.Common.{◌≡◌, ◌∙◌, ◌≢◌, ℕ, zero, suc, ◌+◌, ◌-◌, ◌%◌, ◌^◌, ◌<◌, ◌≤◌, List, [], ◌∷◌, Option, Some, None, length, map, Ok, Err, Result, refl, ap, subst, sym, arith}
+use Rattle.std.proofs.Common.{◌≡◌, ◌∙◌, ◌≢◌, ℕ, zero, suc, ◌+◌, ◌-◌, ◌%◌, ◌^◌, ◌<◌, ◌≤◌, List, [], ◌∷◌, length, Ok, Err, Result, refl, ap, subst, sym, arith}
 use Rattle.std.specs.Prelude.{slice_get, if◌then◌else◌}
 use Rattle.std.specs.List.{AllByRecursion}
 use Rattle.std.proofs.lemmas.Bool.{lt-ltb}
-use Rattle.std.proofs.lemmas.List.{length-map, length-set}
+use Rattle.std.proofs.lemmas.List.{length-set}
 use Rattle.task_ast.specs.CoreCounters.{IsCounterCoreExpr, IsCounterCoreStmt, IsCounterCoreExit, IsCounterArray, IsCounterCoreTask, IsCounterCore}
 use Rattle.task_ast.specs.declared.tree.Op2.{Op2}
 use Rattle.task_ast.specs.declared.tree.Op2.TheVariants.{Add}
@@ -16,14 +16,13 @@ use Rattle.task_ast.specs.declared.core_form.CoreExit.{CoreExit}
 use Rattle.task_ast.specs.declared.core_form.CoreExit.TheVariants.{Next, Stop}
 use Rattle.task_ast.specs.declared.core_form.CoreTask.{CoreTask}
 use Rattle.task_ast.specs.declared.core_form.Core.{Core}
-use Rattle.walk_run.specs.declared.walked.WalkEnd.{WalkEnd}
-use Rattle.walk_run.specs.declared.walked.WalkEnd.TheVariants.{Stopped, Limit, Trapped, NoReading}
+use Rattle.walk_run.specs.declared.walked.WalkEnd.TheVariants.{Trapped, NoReading}
 use Rattle.walk_run.specs.declared.walked.State.{State}
 use Rattle.walk_run.specs.declared.walked.Walked.{Walked}
 use Rattle.walk_run.specs.Store.{Store, declared_store, words_of, place_of, word_at, written}
 use Rattle.walk_run.specs.Value.{with_word, two_values, cell_value, value_of}
-use Rattle.walk_run.specs.Task.{Turn, make_turn, with_store, assigned, statement_done, body_done, next_of, task_run, run_if_there, turn_of}
-use Rattle.walk_run.specs.Walk.{ends, with_state, state_of, unless_stopped, goes_on, walk_from, walk_of}
+use Rattle.walk_run.specs.Task.{Turn, make_turn, with_store, assigned, statement_done, body_done, next_of, task_run, run_if_there}
+use Rattle.walk_run.specs.Walk.{with_state, state_of, unless_stopped, goes_on, walk_from, walk_of}
 
 -- each of so many arrays is there, with a word
 record IsWhole (arrays : ℕ) (store : Store) : Type 0 where
