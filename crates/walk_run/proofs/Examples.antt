@@ -1,10 +1,13 @@
--- Runs worked out by hand, computed.
-use Rattle.std.proofs.Common.{◌≡◌, ℕ, List, [], ◌++◌, refl}
+-- Runs and values worked out by hand, computed.
+use Rattle.std.proofs.Common.{◌≡◌, ℕ, List, [], ◌∷◌, ◌++◌, map, Ok, Err, refl}
+use Rattle.task_ast.specs.declared.tree.Op1.TheVariants.{Not, Inv, Neg}
+use Rattle.task_ast.specs.declared.tree.Op2.TheVariants.{Add, Sub, Mul, Div, Rem, And, Shl, Shr, Eq, Ne, Lt, Le, Gt, Ge, Both, Either}
 use Rattle.std.specs.Prelude.{codes}
 use Rattle.std.specs.Fmt.{digits}
 use Rattle.task_ast.specs.declared.core_form.CoreExpr.TheBlock.{hidden-the_row-CoreExpr-0, shape-the_row-CoreExpr-0}
 use Rattle.task_ast.specs.declared.core_form.Core.{Core}
 use Rattle.walk_run.specs.Examples.{wrapping, handing_over}
+use Rattle.walk_run.specs.Value.{one_word, two_words, two_values}
 use Rattle.walk_run.specs.Walk.{walk_from, walk_of}
 use Rattle.walk_run.specs.WalkText.{line, array_line, state_text, text_of}
 use denote.Hole.Carrier.{hidden}
@@ -26,3 +29,21 @@ tasks_hand_over_until_the_limit = refl
 no_task_is_asked_for : text_after handing_over 0 ≡ line (codes "end limit")
 unfolding text_after handing_over text_of walk_of walk_from
 no_task_is_asked_for = refl
+
+operators_at_their_edges :
+    (two_words Sub 0 1 ∷ two_words Mul 65537 65536 ∷ two_words Shl 3 31 ∷ two_words Shl 1 32 ∷ two_words Shr 2147483648 31 ∷ two_words Shr 1 32 ∷ [])
+    ++ (two_words Div 7 2 ∷ two_words Rem 7 2 ∷ two_words Div 7 0 ∷ two_words Rem 7 0 ∷ [])
+    ++ (two_words Eq 2 2 ∷ two_words Ne 2 2 ∷ two_words Lt 2 2 ∷ two_words Le 2 2 ∷ two_words Gt 3 2 ∷ two_words Ge 2 3 ∷ [])
+    ≡ (Ok 4294967295 ∷ Ok 65536 ∷ Ok 2147483648 ∷ Ok 0 ∷ Ok 1 ∷ Ok 0 ∷ [])
+    ++ (Ok 3 ∷ Ok 1 ∷ Err 2 ∷ Err 2 ∷ [])
+    ++ (Ok 1 ∷ Ok 0 ∷ Ok 0 ∷ Ok 1 ∷ Ok 1 ∷ Ok 0 ∷ [])
+operators_at_their_edges = refl
+
+prefixes_at_their_edges : map (one_word Not) (0 ∷ 5 ∷ []) ++ map (one_word Inv) (0 ∷ 4294967295 ∷ []) ++ map (one_word Neg) (0 ∷ 1 ∷ [])
+    ≡ 1 ∷ 0 ∷ 4294967295 ∷ 0 ∷ 0 ∷ 4294967295 ∷ []
+prefixes_at_their_edges = refl
+
+a_left_side_that_decides_hides_a_trap :
+    two_values Both (Ok 0) (Err 2) ∷ two_values Either (Ok 3) (Err 2) ∷ two_values Both (Ok 1) (Err 2) ∷ two_values And (Ok 0) (Err 2) ∷ two_values Add (Err 1) (Err 2) ∷ []
+    ≡ Ok 0 ∷ Ok 1 ∷ Err 2 ∷ Err 2 ∷ Err 1 ∷ []
+a_left_side_that_decides_hides_a_trap = refl

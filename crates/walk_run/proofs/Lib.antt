@@ -1,3 +1,4 @@
+pub mod CounterRuns
 mod Examples
 pub mod RunLaws
 pub mod Runs

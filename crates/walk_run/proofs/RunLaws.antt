@@ -1,7 +1,6 @@
 -- The laws of every run, by induction on the tasks that are asked for.
-use Rattle.std.proofs.Common.{◌≡◌, ◌∙◌, ◌≢◌, ℕ, zero, suc, ◌+◌, ◌<◌, ◌≤◌, ◌↔◌, List, [], ◌∷◌, ◌++◌, length, Ok, Err, Result, refl, ap, subst, sym, arith, add-one}
+use Rattle.std.proofs.Common.{◌≡◌, ◌≢◌, ℕ, zero, suc, ◌+◌, ◌<◌, ◌≤◌, ◌↔◌, List, [], ◌∷◌, length, Ok, Err, Result, refl, ap, subst, sym, arith, add-one}
 use Rattle.task_ast.specs.declared.core_form.Core.{Core}
-use Rattle.walk_run.specs.declared.walked.WalkEnd.{WalkEnd}
 use Rattle.walk_run.specs.declared.walked.WalkEnd.TheVariants.{Stopped, Limit, Trapped}
 use Rattle.walk_run.specs.declared.walked.State.{State}
 use Rattle.walk_run.specs.declared.walked.Walked.{Walked}

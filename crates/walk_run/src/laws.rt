@@ -1,5 +1,6 @@
 //! What holds of every run, as the contracts of functions that do nothing.
 ghost use Rattle.std.specs.Prelude.{◌≡◌, ◌≢◌, ◌+◌, ◌<◌, ◌≤◌, ◌↔◌, ℕ, length};
+ghost use Rattle.task_ast.specs.CoreCounters.{IsCounterCore};
 ghost use Rattle.walk_run.specs.Laws.{IsFront, next_after};
 ghost use Rattle.walk_run.specs.Walk.{walk_of};
 
@@ -24,4 +25,12 @@ pub fn the_states_tell_the_end(c: &Core, readings: &[u32], tasks: u32)
         × (next_after 1 (walk_of c.now readings.now tasks).states ≢ 0)) }
     ensures trapped { (code : ℕ) → (walk_of c.now readings.now tasks).end ≡ WalkEnd.Trapped code
         → length (walk_of c.now readings.now tasks).states < tasks }
+{}
+
+/// A program that counts never traps and takes no reading, so what the language doesn't have yet never shows.
+#[tactic(auto, using(crate::proofs::CounterRuns::counters_never_trap))]
+pub fn a_counting_run_stops_or_meets_its_limit(c: &Core, readings: &[u32], tasks: u32)
+    requires { IsCounterCore c.now }
+    ensures trapped { (code : ℕ) → (walk_of c.now readings.now tasks).end ≢ WalkEnd.Trapped code }
+    ensures reading { (walk_of c.now readings.now tasks).end ≢ WalkEnd.NoReading }
 {}

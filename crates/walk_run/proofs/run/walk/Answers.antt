@@ -1,5 +1,5 @@
 -- The run by what each task does.
-use Rattle.std.proofs.Common.{◌≡◌, ◌<◌, ◌∙◌, sym, arith}
+use Rattle.std.proofs.Common.{◌<◌, sym, arith}
 use Rattle.walk_run.proofs.Runs.{run_begins, run_traps, run_goes_on, run_stops, run_is_over, state_pushed}
 use Rattle.walk_run.proofs.run.walk.Goals as goal
 

@@ -1,7 +1,7 @@
 -- The write, as arrays are seen.
-use Rattle.std.proofs.Common.{◌∙◌, ◌<◌, map, length, ap, sym, refl, arith}
+use Rattle.std.proofs.Common.{◌∙◌, ◌<◌, length, ap, refl, arith}
 use Rattle.std.proofs.lemmas.List.{length-map}
-use Rattle.walk_run.specs.Store.{words_of, written}
+use Rattle.walk_run.specs.Store.{written}
 use Rattle.walk_run.proofs.Stores.{view_written, array_is_there}
 use Rattle.walk_run.proofs.store.Store.write.Goals as goal
 
