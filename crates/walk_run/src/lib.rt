@@ -2,7 +2,6 @@
 #![tactic(auto)]
 
 mod laws;
-mod number;
 mod run;
 mod store;
 mod task;

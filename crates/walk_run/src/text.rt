@@ -4,9 +4,8 @@ ghost use Rattle.std.specs.List.{flat_map};
 ghost use Rattle.walk_run.specs.Store.{kept_names};
 ghost use Rattle.walk_run.specs.WalkText.{line, word_text, array_line, array_lines, state_text, end_text, text_of};
 
-use crate::number::{put_bytes, put_number};
 use crate::walked::{State, WalkEnd, Walked};
-use ease_base::{NoMemory, Text, Words};
+use ease_base::{NoMemory, Text, Words, put_number};
 use std::alloc::Global;
 use task_ast::{Array, Core, Kind};
 
@@ -28,7 +27,7 @@ pub fn walk_text(alloc: Global, c: &Core, w: &Walked) -> Result<Text, NoMemory>
 fn put_state(out: &mut Text, arrays: &[Array], state: &State) -> Result<(), NoMemory>
     ensures { OnOk result (out.new ≡ out.old ++ state_text (kept_names arrays.now) state.now) }
 {
-    put_bytes(out, b"commit ")?;
+    out.extend(b"commit ")?;
     put_number(out, u64::from(state.next))?;
     out.push(b'\n')?;
     put_arrays(out, arrays, state.words.as_slice())
@@ -54,8 +53,8 @@ fn put_arrays(out: &mut Text, arrays: &[Array], words: &[Words]) -> Result<(), N
 fn put_array(out: &mut Text, name: &[u8], words: &[u32]) -> Result<(), NoMemory>
     ensures { OnOk result (out.new ≡ out.old ++ array_line name.now words.now) }
 {
-    put_bytes(out, name)?;
-    put_bytes(out, b" =")?;
+    out.extend(name)?;
+    out.extend(b" =")?;
     put_words(out, words)?;
     out.push(b'\n')?;
     Ok(())
@@ -75,14 +74,14 @@ fn put_end(out: &mut Text, end: WalkEnd) -> Result<(), NoMemory>
     ensures { OnOk result (out.new ≡ out.old ++ line (end_text end)) }
 {
     match end {
-        WalkEnd::Stopped => put_bytes(out, b"end stopped\n"),
-        WalkEnd::Limit => put_bytes(out, b"end limit\n"),
+        WalkEnd::Stopped => out.extend(b"end stopped\n"),
+        WalkEnd::Limit => out.extend(b"end limit\n"),
         WalkEnd::Trapped(code) => {
-            put_bytes(out, b"end trapped ")?;
+            out.extend(b"end trapped ")?;
             put_number(out, u64::from(code))?;
             out.push(b'\n')?;
             Ok(())
         }
-        WalkEnd::NoReading => put_bytes(out, b"end reading\n"),
+        WalkEnd::NoReading => out.extend(b"end reading\n"),
     }
 }

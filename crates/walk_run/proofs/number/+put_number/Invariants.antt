@@ -1,5 +1,0 @@
--- The number gets smaller.
-use Rattle.walk_run.proofs.number.+put_number.Given as goal
-
-abbrev pub decreases-put_number : goal.decreases-put_number
-decreases-put_number l = l.n
