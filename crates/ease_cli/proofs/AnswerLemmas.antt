@@ -5,6 +5,7 @@ use Rattle.ease_base.specs.Cabinet.{Contents}
 use Rattle.ease_base.specs.Sink.{extended}
 use Rattle.task_ast.specs.declared.tree.Program.{Program}
 use Rattle.task_text.specs.declared.error.TextError.{TextError}
+use Rattle.task_check.specs.Faults.{Accepted}
 use Rattle.task_text.specs.Reads.{Reads, Refuses}
 use Rattle.ease_cli.specs.declared.status.Status.{Status}
 use Rattle.ease_cli.specs.declared.status.Status.TheVariants as status
@@ -54,3 +55,11 @@ writes-whole words told contents status.ReadFault text before after said is = (t
 writes-whole words told contents status.TooLong text before after said is = (text, said, is)
 writes-whole words told contents status.WriteFault text before after said is = absurd said
 writes-whole words told contents status.NoMemory text before after said is = absurd said
+
+-- where the reader answered one program and the text is another, they are the same, and so is what is accepted
+pub accepted-same : (a p : Program) → ◌≡◌ {A = Result Program TextError} (Ok a) (Ok p) → Accepted p → Accepted a
+accepted-same a p same accepted = subst Accepted (let e : p ≡ a = cc in e) accepted
+
+-- a reader that refused has answered no program
+pub refused-answers-none : {A : Type 0} (e : TextError) (p : Program) → ◌≡◌ {A = Result Program TextError} (Err e) (Ok p) → A
+refused-answers-none e p same = absurd (let no_way : ⊥ = cc in no_way)

@@ -2,7 +2,7 @@ use Rattle.std.proofs.Common.{sym}
 use Rattle.std.proofs.lemmas.Result.{IfOk-weaker}
 use Rattle.task_text.specs.declared.error.TextError.TheVariants.{Syntax, NumberTooWide}
 use Rattle.ease_cli.specs.Answer.{ProgramSays, SourceSays}
-use Rattle.ease_cli.proofs.AnswerLemmas.{source-from_program, refusal-says}
+use Rattle.ease_cli.proofs.AnswerLemmas.{source-from_program, refusal-says, accepted-same, refused-answers-none}
 use Rattle.ease_cli.proofs.answer.source_answer.Goals as goal
 
 pub returns-in-Ok-clause-says : goal.returns-in-Ok-clause-says
@@ -23,3 +23,15 @@ pub returns-in-Err-NumberTooWide-clause-says : goal.returns-in-Err-NumberTooWide
 returns-in-Err-NumberTooWide-clause-says c =
     let refused = rw c.in-Err-NumberTooWide.field-0-is at c.in-Err-NumberTooWide.ensures.refused in
     refusal-says (λ a. a.status) (λ a. a.text) c.args.source.now c.args.tasks (NumberTooWide c.in-Err-NumberTooWide.at) c.source_line.result c.refusal-in-Err-NumberTooWide.result refused c.source_line.ensures c.refusal-in-Err-NumberTooWide.ensures
+
+pub returns-in-Ok-clause-complete : goal.returns-in-Ok-clause-complete
+returns-in-Ok-clause-complete c = λ p reads accepted.
+    c.program_answer.ensures.complete (accepted-same c.in-Ok.program p (c.in-Ok.ensures.only p reads) accepted)
+
+pub returns-in-Err-Syntax-clause-complete : goal.returns-in-Err-Syntax-clause-complete
+returns-in-Err-Syntax-clause-complete c = λ p reads accepted.
+    refused-answers-none (Syntax c.in-Err-Syntax.at) p (rw c.in-Err-Syntax.field-0-is at (c.in-Err-Syntax.ensures.only p reads))
+
+pub returns-in-Err-NumberTooWide-clause-complete : goal.returns-in-Err-NumberTooWide-clause-complete
+returns-in-Err-NumberTooWide-clause-complete c = λ p reads accepted.
+    refused-answers-none (NumberTooWide c.in-Err-NumberTooWide.at) p (rw c.in-Err-NumberTooWide.field-0-is at (c.in-Err-NumberTooWide.ensures.only p reads))
