@@ -1,5 +1,5 @@
 -- The definitions, computed on small programs and on texts that are none.
-use Rattle.std.proofs.Common.{◌≡◌, ◌≢◌, ℕ, ◌≤◌, ◌<◌, Bool, true, false, not, List, [], ◌∷◌, ◌++◌, Option, Some, None, Result, Ok, Err, codes, refl, sym, ap, ◌∙◌, arith, inl, inr, lit<, lit≤}
+use Rattle.std.proofs.Common.{◌≡◌, ◌≢◌, ℕ, true, false, not, List, [], ◌∷◌, ◌++◌, Some, None, codes, refl, sym, ap, ◌∙◌, arith, inl, inr, lit<, lit≤}
 use Rattle.std.proofs.lemmas.Bool.{and_parts, false≢true}
 use Rattle.std.proofs.lemmas.Option.{none-some}
 use Rattle.std.specs.List.{AllByRecursion, list_all}
@@ -20,8 +20,8 @@ use Rattle.task_text.specs.declared.token.Lexeme.{Lexeme}
 use Rattle.task_text.specs.declared.token.Lexeme.TheVariants.{Name as Named, Number, TooWide, Reserved, Symbol}
 use Rattle.task_text.specs.declared.token.Token.{Token}
 use Rattle.task_text.specs.Spelling.{letters}
-use Rattle.task_text.specs.Division.{Piece, Fits, Divides, IsStuck, BreaksAt, start, tokens_of}
-use Rattle.task_text.specs.Cutting.{keyword_of, sign_of, first_cut, run_cut, run_lexeme, mark_cut}
+use Rattle.task_text.specs.Division.{Piece, Divides, BreaksAt, start, tokens_of}
+use Rattle.task_text.specs.Cutting.{keyword_of, first_cut, run_cut, run_lexeme, mark_cut}
 use Rattle.task_text.specs.Reading.{program_at, many}
 use Rattle.task_text.specs.Reads.{Reads, IsNarrow, IsTooWideAt, HasNoTree, is_too_wide}
 use Rattle.task_text.proofs.Tables.{keyword_of-letters}
@@ -85,9 +85,76 @@ counter_pieces =
 counter-divides : Divides counter counter_pieces
 counter-divides = record {
   whole = refl;
-  each = ((refl, refl), (inl (32, refl, refl), ((refl, refl), (inl (32, refl, refl), (((refl, refl, free-x), refl), (inl (32, refl, refl), ((refl, refl), (inl (32, refl, refl), (((refl, lit< tt), refl), ((refl, refl),
-    (inl (32, refl, refl), ((refl, refl), (inl (32, refl, refl), (((refl, refl, free-a), refl), (inl (32, refl, refl), ((refl, refl), (inl (32, refl, refl), (((refl, refl, free-x), refl), (inl (32, refl, refl), ((refl, refl), (inl (32, refl, refl), (((refl, refl, free-x), refl), (inl (32, refl, refl),
-    ((refl, refl), (inl (32, refl, refl), (((refl, lit< tt), refl), ((refl, refl), (inl (32, refl, refl), ((refl, refl), ((refl, refl), (inl (32, refl, refl), ((refl, tt), tt))))))))))))))))))))))))))))))));
+  each = (
+    (refl, refl),
+    (
+      inl (32, refl, refl),
+      (
+        (refl, refl),
+        (
+          inl (32, refl, refl),
+          (
+            ((refl, refl, free-x), refl),
+            (
+              inl (32, refl, refl),
+              (
+                (refl, refl),
+                (
+                  inl (32, refl, refl),
+                  (
+                    ((refl, lit< tt), refl),
+                    (
+                      (refl, refl),
+                      (
+                        inl (32, refl, refl),
+                        (
+                          (refl, refl),
+                          (
+                            inl (32, refl, refl),
+                            (
+                              ((refl, refl, free-a), refl),
+                              (
+                                inl (32, refl, refl),
+                                (
+                                  (refl, refl),
+                                  (
+                                    inl (32, refl, refl),
+                                    (
+                                      ((refl, refl, free-x), refl),
+                                      (
+                                        inl (32, refl, refl),
+                                        (
+                                          (refl, refl),
+                                          (
+                                            inl (32, refl, refl),
+                                            (
+                                              ((refl, refl, free-x), refl),
+                                              (
+                                                inl (32, refl, refl),
+                                                ((refl, refl), (inl (32, refl, refl), (((refl, lit< tt), refl), ((refl, refl), (inl (32, refl, refl), ((refl, refl), ((refl, refl), (inl (32, refl, refl), ((refl, tt), tt))))))))),
+                                              ),
+                                            ),
+                                          ),
+                                        ),
+                                      ),
+                                    ),
+                                  ),
+                                ),
+                              ),
+                            ),
+                          ),
+                        ),
+                      ),
+                    ),
+                  ),
+                ),
+              ),
+            ),
+          ),
+        ),
+      ),
+    ),
+  );
 }
 
 abbrev counter_tree : Program
@@ -116,13 +183,25 @@ counter-program =
     let ending = grammar.reserved keyword.Stop (at 45) ∷ grammar.symbol sign.Semicolon (at 49) ∷ [] in
     let task = grammar.reserved keyword.Task (at 25) ∷ grammar.name (named (codes "a") 30) ∷ grammar.symbol sign.BraceOpen (at 32) ∷ (counter_body ++ (ending ++ grammar.symbol sign.BraceClose (at 51) ∷ [])) in
     record {
-      front = declared; back = task; whole = refl;
+      front = declared;
+      back = task;
+      whole = refl;
       decls = (declared, [], refl, (at 1, at 4, at 23, init, refl, refl, (at 11, at 13, refl)), refl);
-      tasks = (task, [], refl, record {
-        at_task = at 25; at_brace = at 32; body = counter_body; ending = ending; whole = refl;
-        stmts = (counter_body, [], refl, (at 36, at 43, counter_value, refl, (two-is x one (at 40) (grammar.name (named (codes "x") 38) ∷ []) (grammar.number 1 (at 42) ∷ []) refl refl, omega (arith, depth-two x one))), refl);
-        exit = (at 45, at 49, refl);
-      }, refl);
+      tasks = (
+        task,
+        [],
+        refl,
+        record {
+          at_task = at 25;
+          at_brace = at 32;
+          body = counter_body;
+          ending = ending;
+          whole = refl;
+          stmts = (counter_body, [], refl, (at 36, at 43, counter_value, refl, (two-is x one (at 40) (grammar.name (named (codes "x") 38) ∷ []) (grammar.number 1 (at 42) ∷ []) refl refl, omega (arith, depth-two x one))), refl);
+          exit = (at 45, at 49, refl);
+        },
+        refl,
+      );
       some = omega arith;
     }
 
@@ -160,7 +239,10 @@ turns-program =
     let ending = grammar.reserved keyword.Next (second 8) ∷ grammar.symbol sign.ParenOpen (second 12) ∷ grammar.name a ∷ grammar.symbol sign.ParenClose (second 14) ∷ grammar.symbol sign.Semicolon (second 15) ∷ [] in
     let task = grammar.reserved keyword.Task (second 1) ∷ grammar.name (record { text = codes "a"; at = second 6 }) ∷ grammar.symbol sign.BraceOpen (second 7) ∷ (ending ++ grammar.symbol sign.BraceClose (second 16) ∷ []) in
     record {
-      front = []; back = task; whole = refl; decls = refl;
+      front = [];
+      back = task;
+      whole = refl;
+      decls = refl;
       tasks = (task, [], refl, record { at_task = second 1; at_brace = second 7; body = []; ending = ending; whole = refl; stmts = refl; exit = (second 8, second 12, second 14, second 15, refl) }, refl);
       some = omega arith;
     }
@@ -172,7 +254,10 @@ turns-reads = record { pieces = turns_pieces; divides = turns-divides; narrow = 
 
 stuck-by : (text : List ℕ) → text ≢ [] → first_cut text ≡ None → BreaksAt text start
 stuck-by text some h = record {
-  pieces = []; rest = text; begins = record { whole = refl; each = tt }; place = refl;
+  pieces = [];
+  rest = text;
+  begins = record { whole = refl; each = tt };
+  place = refl;
   stuck = record { some = some; none = λ bytes more lexeme e f. none-some _ (sym h ∙ piece-cut text more (record { bytes = bytes; lexeme = lexeme }) e f) };
 }
 
@@ -196,7 +281,9 @@ wide-at-start =
 pub nothing-has_no_tree : HasNoTree [] start
 unfolding program_at many
 nothing-has_no_tree = record {
-  pieces = []; divides = record { whole = refl; each = tt }; narrow = tt;
+  pieces = [];
+  divides = record { whole = refl; each = tt };
+  narrow = tt;
   none = λ p h. not_found p [] [] (program-complete p [] h);
   place = inr refl;
 }

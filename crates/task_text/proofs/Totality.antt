@@ -1,5 +1,5 @@
 -- Each text is a program or refused.
-use Rattle.std.proofs.Common.{◌≡◌, ◌≢◌, ℕ, zero, suc, ◌+◌, ◌<◌, ◌≤◌, List, [], ◌∷◌, ◌++◌, length, Option, Some, None, Result, Ok, Err, refl, sym, ap, subst, ◌∙◌, arith, ◌⊎◌, inl, inr, Bool, true, false, length-append}
+use Rattle.std.proofs.Common.{◌≡◌, ◌≢◌, ℕ, zero, suc, ◌≤◌, List, [], ◌∷◌, ◌++◌, length, Option, Some, None, Ok, Err, refl, sym, ap, subst, ◌∙◌, arith, ◌⊎◌, inl, inr, true, false, length-append}
 use Rattle.std.proofs.lemmas.Bool.{cases_Bool}
 use Rattle.std.proofs.lemmas.Option.{none-some}
 use Rattle.std.specs.List.{AllByRecursion}
@@ -9,11 +9,11 @@ use Rattle.task_text.specs.declared.token.Token.{Token}
 use Rattle.task_text.specs.declared.cut.Cut.{Cut}
 use Rattle.task_text.specs.declared.error.TextError.{TextError}
 use Rattle.task_text.specs.declared.error.TextError.TheVariants.{Syntax, NumberTooWide}
-use Rattle.task_text.specs.Division.{Piece, Divides, BeginsWith, IsStuck, BreaksAt, Fits, start, tokens_of, end_of}
+use Rattle.task_text.specs.Division.{Piece, Divides, BeginsWith, IsStuck, Fits, start, tokens_of, end_of}
 use Rattle.task_text.specs.Cutting.{first_cut}
-use Rattle.task_text.specs.Reading.{Found, Outcome, found, first_place, program_at}
+use Rattle.task_text.specs.Reading.{Outcome, first_place, program_at}
 use Rattle.task_text.specs.Reads.{Reads, Refuses, IsNarrow, IsFirstTooWide, is_too_wide}
-use Rattle.task_text.proofs.CutSound.{CutsOff, cut_sound}
+use Rattle.task_text.proofs.CutSound.{cut_sound}
 use Rattle.task_text.proofs.DivisionLaws.{piece-cut}
 use Rattle.task_text.proofs.ItemsSound.{program-sound}
 use Rattle.task_text.proofs.ReadLaws.{narrow-from, wide-is, reading-refused}
@@ -34,7 +34,9 @@ divided-cut b bs (Some c) e later =
     let r = cut_sound (b ∷ bs) c e in
     let d = later r.rest (omega (arith, ap length r.whole, length-append r.bytes r.rest, r.some)) in
     record {
-      pieces = record { bytes = r.bytes; lexeme = c.lexeme } ∷ d.pieces; rest = d.rest; ended = d.ended;
+      pieces = record { bytes = r.bytes; lexeme = c.lexeme } ∷ d.pieces;
+      rest = d.rest;
+      ended = d.ended;
       begins = record { whole = r.whole ∙ ap (λ ys. r.bytes ++ ys) d.begins.whole; each = (subst (λ ys. Fits r.bytes ys c.lexeme) d.begins.whole r.fits, d.begins.each) };
     }
 

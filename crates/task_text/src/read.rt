@@ -97,5 +97,4 @@ pub fn one_tree()
 pub fn read_or_refused()
     ensures one { (text : List ℕ) → ((p : Program) × Reads text p) ⊎ ((e : TextError) × Refuses text e) }
     ensures not_both { (text : List ℕ) (p : Program) (e : TextError) → Reads text p → Refuses text e → ⊥ }
-{
-}
+{}
