@@ -1,8 +1,7 @@
 -- A program of the grammar is one of counters.
-use Rattle.std.proofs.Common.{◌≡◌, ℕ, ◌<◌, ◌≤◌, List, [], ◌∷◌, ◌++◌, length, None, refl, sym, ap, subst, ◌∙◌, arith, Result, Ok, Err}
+use Rattle.std.proofs.Common.{◌≡◌, ℕ, ◌≤◌, List, [], ◌∷◌, length, None, refl, arith, Result, Ok, Err}
 use Rattle.std.specs.List.{AllByRecursion}
 use Rattle.std.specs.Prelude.{IfOk}
-use Rattle.ease_base.specs.declared.place.Pos.{Pos}
 use Rattle.task_ast.specs.declared.tree.Op1.{Op1}
 use Rattle.task_ast.specs.declared.tree.Op2.{Op2}
 use Rattle.task_ast.specs.declared.tree.Op2.TheVariants as op
@@ -21,12 +20,12 @@ use Rattle.task_ast.specs.declared.tree.Exit.TheVariants as exit
 use Rattle.task_ast.specs.declared.tree.Task.{Task}
 use Rattle.task_ast.specs.declared.tree.Program.{Program}
 use Rattle.task_ast.specs.Counters.{IsCounterExpr, IsCounterStmt, IsCounterExit, IsCounterDecl, IsCounterTask, IsCounterProgram}
-use Rattle.task_ast.specs.Expressions.{HoldsByParts, for_every}
+use Rattle.task_ast.specs.Expressions.{for_every}
 use Rattle.task_text.specs.declared.token.Sign.{Sign}
 use Rattle.task_text.specs.declared.token.Token.{Token}
 use Rattle.task_text.specs.declared.error.TextError.{TextError}
 use Rattle.task_text.specs.Grammar.{Stands, IsExpr, IsInit, IsDecl, IsStmt, IsExit, IsTask, IsProgram, AreAll}
-use Rattle.task_text.specs.Reads.{Reads, IsResult}
+use Rattle.task_text.specs.Reads.{IsResult}
 
 abbrev IsCounted : Expr → Type 0
 IsCounted e = (level : ℕ) (tokens : List Token) → IsExpr e level tokens → IsCounterExpr e

@@ -1,21 +1,19 @@
 -- What fits at the front of a text is what is cut.
-use Rattle.std.proofs.Common.{◌≡◌, ◌≢◌, ℕ, suc, ◌+◌, ◌<◌, ◌≤◌, ◌^◌, Bool, true, false, not, ◌&&◌, ◌||◌, ◌==◌, cond, eqb, List, [], ◌∷◌, ◌++◌, length, take, drop, Option, Some, None, refl, sym, ap, subst, ◌∙◌, arith, ◌⊎◌, inl, inr, codes, append_assoc, length-append, add-one}
+use Rattle.std.proofs.Common.{◌≡◌, ◌≢◌, ℕ, suc, ◌+◌, true, false, not, ◌||◌, ◌==◌, eqb, List, [], ◌∷◌, ◌++◌, length, Option, Some, None, refl, sym, ap, subst, ◌∙◌, arith, ◌⊎◌, inl, inr, codes, append_assoc, length-append}
 use Rattle.std.proofs.lemmas.Bool.{and_parts, and_from, or_parts, cond-true, cond-false, cases_Bool, false≢true}
-use Rattle.std.proofs.lemmas.Bool.Decides.{nat_tests}
 use Rattle.std.specs.Char.{is_ascii_digit}
 use Rattle.std.specs.Option.{option_map}
-use Rattle.std.specs.List.{list_all, take_while}
+use Rattle.std.specs.List.{list_all}
 use Rattle.task_text.specs.declared.token.Keyword.{Keyword}
 use Rattle.task_text.specs.declared.token.Keyword.TheVariants as keyword
 use Rattle.task_text.specs.declared.token.Sign.{Sign}
 use Rattle.task_text.specs.declared.token.Sign.TheVariants as sign
 use Rattle.task_text.specs.declared.token.Lexeme.{Lexeme}
 use Rattle.task_text.specs.declared.token.Lexeme.TheVariants.{Name, Number, TooWide, Reserved, Symbol}
-use Rattle.task_text.specs.declared.cut.Cut.{Cut}
-use Rattle.task_text.specs.Spelling.{letters, marks, numeral, is_letter, is_name, is_word_byte, is_barred, MayStandBefore}
+use Rattle.task_text.specs.Spelling.{letters, marks, numeral, is_letter, is_name, is_word_byte, MayStandBefore}
 use Rattle.task_text.specs.Division.{is_white, Fits, has_end, IsLineEnd}
 use Rattle.task_text.specs.Cutting.{keyword_of, sign_of, number_lexeme, name_lexeme, run_lexeme, blank, token, run_cut, end_len, ends_comment, symbol_cut, mark_cut, first_cut}
-use Rattle.task_text.proofs.Bytes.{Stops, take_while-front, word-no_white, letter-word, letter-no_digit, digit-word}
+use Rattle.task_text.proofs.Bytes.{Stops, take_while-front, word-no_white, letter-word, letter-no_digit}
 use Rattle.task_text.proofs.Numerals.{numeral-word, numeral-first, number_lexeme-narrow, number_lexeme-wide}
 use Rattle.task_text.proofs.Tables.{keyword_of-letters, keyword_of-sound, sign_of-marks}
 

@@ -1,6 +1,6 @@
 -- What is cut off a text fits at its front.
-use Rattle.std.proofs.Common.{◌≡◌, ◌≢◌, ℕ, suc, ◌+◌, ◌<◌, ◌≤◌, ◌^◌, Bool, true, false, not, ◌&&◌, ◌||◌, ◌==◌, cond, eqb, ltb, List, [], ◌∷◌, ◌++◌, length, take, drop, Option, Some, None, refl, sym, ap, subst, ◌∙◌, arith, ◌⊎◌, inl, inr, codes, append_assoc, length-append, add-one, eqb-true}
-use Rattle.std.proofs.lemmas.Bool.{and_parts, and_from, or_parts, or_from, cond-true, cond-false, cases_Bool, cases_lt, false≢true}
+use Rattle.std.proofs.Common.{◌≡◌, ℕ, ◌+◌, ◌<◌, ◌≤◌, ◌^◌, Bool, true, false, not, ◌==◌, cond, eqb, List, [], ◌∷◌, ◌++◌, length, drop, Option, Some, None, refl, sym, ap, subst, ◌∙◌, arith, ◌⊎◌, inl, inr, codes, append_assoc, length-append, eqb-true}
+use Rattle.std.proofs.lemmas.Bool.{and_parts, and_from, or_from, cond-true, cond-false, cases_Bool, cases_lt, false≢true}
 use Rattle.std.proofs.lemmas.List.Sums.{take_while-cons}
 use Rattle.std.proofs.lemmas.Option.{none-some, same_Some}
 use Rattle.std.specs.Char.{is_ascii_digit}
@@ -10,9 +10,9 @@ use Rattle.task_text.specs.declared.token.Keyword.{Keyword}
 use Rattle.task_text.specs.declared.token.Sign.{Sign}
 use Rattle.task_text.specs.declared.token.Sign.TheVariants as sign
 use Rattle.task_text.specs.declared.token.Lexeme.{Lexeme}
-use Rattle.task_text.specs.declared.token.Lexeme.TheVariants.{Name, Number, TooWide, Reserved, Symbol}
+use Rattle.task_text.specs.declared.token.Lexeme.TheVariants.{Name, Number, TooWide, Reserved}
 use Rattle.task_text.specs.declared.cut.Cut.{Cut}
-use Rattle.task_text.specs.Spelling.{letters, marks, numeral, is_letter, is_word_byte, Spells, MayStandBefore}
+use Rattle.task_text.specs.Spelling.{marks, numeral, is_letter, is_word_byte, Spells, MayStandBefore}
 use Rattle.task_text.specs.Division.{is_white, Fits, has_end, IsLineEnd}
 use Rattle.task_text.specs.Cutting.{keyword_of, sign_of, number_lexeme, name_lexeme, run_lexeme, blank, token, run_cut, end_len, ends_comment, symbol_cut, mark_cut, first_cut}
 use Rattle.task_text.proofs.Bytes.{Stops, Run, take_while_run, word-letter}

@@ -1,14 +1,12 @@
 -- A text divides in at most one way, or breaks off at one place.
-use Rattle.std.proofs.Common.{◌≡◌, ◌≢◌, ℕ, ◌<◌, List, [], ◌∷◌, ◌++◌, length, drop, Option, Some, None, refl, sym, ap, subst, ◌∙◌, arith}
-use Rattle.std.proofs.lemmas.List.Prefix.{front_rest}
+use Rattle.std.proofs.Common.{◌≡◌, ℕ, List, [], ◌∷◌, ◌++◌, length, Option, Some, refl, sym, ap, ◌∙◌, arith}
 use Rattle.std.proofs.lemmas.Option.{none-some, same_Some}
 use Rattle.ease_base.specs.declared.place.Pos.{Pos}
 use Rattle.task_text.specs.declared.token.Lexeme.{Lexeme}
 use Rattle.task_text.specs.declared.cut.Cut.{Cut}
-use Rattle.task_text.specs.Division.{Piece, Fits, joined, ArePieces, BeginsWith, Divides, IsStuck, BreaksAt, start, end_of, tokens_of}
+use Rattle.task_text.specs.Division.{Piece, Fits, joined, ArePieces, Divides, BreaksAt, start, end_of}
 use Rattle.task_text.specs.Cutting.{first_cut}
 use Rattle.task_text.proofs.CutComplete.{cut_complete}
-use Rattle.task_text.proofs.CutSound.{cut_sound, CutsOff}
 
 -- the cut of a piece
 abbrev cut_of : Piece → Cut

@@ -1,5 +1,5 @@
 -- The division of a text, piece by piece.
-use Rattle.std.proofs.Common.{◌≡◌, ◌≢◌, ℕ, ◌+◌, ◌<◌, ◌≤◌, List, [], ◌∷◌, ◌++◌, length, take, drop, Option, Some, None, refl, sym, ap, subst, ◌∙◌, arith, append_assoc, take-append-drop, Bool, false, true, eqb}
+use Rattle.std.proofs.Common.{◌≡◌, ◌≢◌, ℕ, ◌<◌, ◌≤◌, List, [], ◌∷◌, ◌++◌, length, take, drop, Option, Some, None, refl, sym, ap, subst, ◌∙◌, arith, take-append-drop, Bool, false, eqb}
 use Rattle.std.proofs.lemmas.List.Prefix.{front_rest, front_fits}
 use Rattle.std.proofs.lemmas.Bool.{false≢true}
 use Rattle.std.proofs.lemmas.Option.{none-some}
@@ -7,11 +7,10 @@ use Rattle.ease_base.specs.declared.place.Pos.{Pos}
 use Rattle.task_text.specs.declared.token.Lexeme.{Lexeme}
 use Rattle.task_text.specs.declared.token.Token.{Token}
 use Rattle.task_text.specs.declared.cut.Cut.{Cut}
-use Rattle.task_text.specs.declared.divide.Divided.{Divided}
-use Rattle.task_text.specs.Division.{Piece, Fits, joined, ArePieces, BeginsWith, Divides, IsStuck, BreaksAt, start, behind, end_of, tokens_of, with_token}
+use Rattle.task_text.specs.Division.{Piece, Fits, joined, ArePieces, BeginsWith, BreaksAt, start, behind, end_of, tokens_of, with_token}
 use Rattle.task_text.specs.Divided.{IsDivided}
 use Rattle.task_text.specs.Cutting.{first_cut}
-use Rattle.task_text.proofs.CutSound.{cut_sound, CutsOff}
+use Rattle.task_text.proofs.CutSound.{cut_sound}
 use Rattle.task_text.proofs.DivisionLaws.{piece-cut}
 
 -- so far the text is some pieces, with these tokens, up to a rest at this place

@@ -1,5 +1,5 @@
 -- An expression of the grammar is read, where no `+` follows.
-use Rattle.std.proofs.Common.{◌≡◌, ℕ, zero, suc, ◌+◌, ◌-◌, ◌<◌, ◌≤◌, max, Bool, true, false, List, [], ◌∷◌, ◌++◌, Result, Ok, Err, refl, sym, ap, subst, ◌∙◌, arith, append_assoc}
+use Rattle.std.proofs.Common.{◌≡◌, ℕ, suc, ◌+◌, ◌-◌, ◌<◌, ◌≤◌, max, false, List, [], ◌∷◌, ◌++◌, refl, sym, ap, subst, ◌∙◌, arith, append_assoc}
 use Rattle.ease_base.specs.declared.place.Pos.{Pos}
 use Rattle.task_ast.specs.declared.tree.Name.{Name}
 use Rattle.task_ast.specs.declared.tree.Op1.{Op1}
@@ -15,7 +15,7 @@ use Rattle.task_text.specs.declared.token.Sign.TheVariants as sign
 use Rattle.task_text.specs.declared.token.Token.{Token}
 use Rattle.task_text.specs.declared.expr.Deep.{Deep}
 use Rattle.task_text.specs.Grammar.{symbol, number, name, Stands, IsExpr, depth}
-use Rattle.task_text.specs.Reading.{Found, Outcome, found, ◌>>=◌, begins_sign, sign_at, parenthesized, sum, atom_at, paren_of, part_at, expr_at, name_at, number_at}
+use Rattle.task_text.specs.Reading.{found, ◌>>=◌, begins_sign, sign_at, parenthesized, sum, atom_at, paren_of, part_at, expr_at, name_at, number_at}
 use Rattle.task_text.proofs.TokenLaws.{sign-complete}
 use Rattle.task_text.proofs.Terms.{Terms, Terms-none, Terms-more, Terms-all, part-atom, part-paren}
 use Rattle.task_text.proofs.ExprSound.{depth-paren, depth-two}

@@ -1,8 +1,8 @@
 -- Items are read one by one.
-use Rattle.std.proofs.Common.{◌≡◌, ℕ, zero, suc, ◌+◌, ◌<◌, ◌≤◌, Bool, true, false, cond, List, [], ◌∷◌, ◌++◌, length, Result, Ok, Err, refl, sym, ap, subst, ◌∙◌, arith, append_assoc, append-nil}
+use Rattle.std.proofs.Common.{◌≡◌, ℕ, zero, suc, ◌<◌, ◌≤◌, Bool, true, false, List, [], ◌∷◌, ◌++◌, length, Ok, Err, refl, sym, ap, ◌∙◌, arith, append_assoc, append-nil}
 use Rattle.std.proofs.lemmas.Bool.{cond-true, cond-false, false≢true}
 use Rattle.task_text.specs.declared.token.Token.{Token}
-use Rattle.task_text.specs.Reading.{Found, Outcome, found, ◌>>=◌, many}
+use Rattle.task_text.specs.Reading.{Outcome, found, ◌>>=◌, many}
 
 -- what was read before stands before what is read
 abbrev pub with_front : {T : Type 0} → List T → Outcome (List T) → Outcome (List T)

@@ -1,11 +1,8 @@
 -- Declarations, statements, exits, tasks and programs of the grammar are read.
-use Rattle.std.proofs.Common.{◌≡◌, ℕ, zero, suc, ◌+◌, ◌<◌, ◌≤◌, Bool, true, false, cond, eqb, List, [], ◌∷◌, ◌++◌, length, Option, Some, None, Result, Ok, Err, refl, sym, ap, subst, ◌∙◌, arith, append_assoc, append-nil, length-append}
+use Rattle.std.proofs.Common.{◌≡◌, ℕ, zero, suc, ◌<◌, ◌≤◌, Bool, true, false, eqb, List, [], ◌∷◌, ◌++◌, length, None, Err, refl, sym, ap, ◌∙◌, arith, append_assoc, append-nil, length-append}
 use Rattle.std.proofs.lemmas.Bool.{cond-true, cond-false, ne_eqb}
 use Rattle.ease_base.specs.declared.place.Pos.{Pos}
-use Rattle.task_ast.specs.declared.tree.Name.{Name}
-use Rattle.task_ast.specs.declared.tree.Expr.{Expr}
 use Rattle.task_ast.specs.declared.tree.Kind.{Kind}
-use Rattle.task_ast.specs.declared.tree.Kind.TheVariants.{Nv}
 use Rattle.task_ast.specs.declared.tree.Decl.{Decl}
 use Rattle.task_ast.specs.declared.tree.Decl.TheVariants as decl
 use Rattle.task_ast.specs.declared.tree.Stmt.{Stmt}
@@ -18,9 +15,9 @@ use Rattle.task_ast.specs.declared.tree.Program.{Program}
 use Rattle.task_text.specs.declared.token.Keyword.TheVariants as keyword
 use Rattle.task_text.specs.declared.token.Sign.TheVariants as sign
 use Rattle.task_text.specs.declared.token.Token.{Token}
-use Rattle.task_text.specs.Grammar.{symbol, reserved, number, name, IsExpr, depth, IsInit, IsDecl, IsStmt, IsExit, IsTask, IsProgram, AreAll, deepest}
-use Rattle.task_text.specs.Reading.{Found, Outcome, found, ◌>>=◌, begins_sign, begins_reserved, begins_name, is_empty, sign_at, reserved_at, name_at, number_at, expr_at, many, init_at, decl_at, stmt_at, stmts_at, next_at, stop_at, exit_at, task_at, decls_at, tasks_at, whole, program_at}
-use Rattle.task_text.proofs.TokenLaws.{sign-begins, sign-complete, reserved-begins, reserved-complete, name-complete, number-complete}
+use Rattle.task_text.specs.Grammar.{symbol, reserved, number, name, IsInit, IsDecl, IsStmt, IsExit, IsTask, IsProgram, AreAll, deepest}
+use Rattle.task_text.specs.Reading.{Found, Outcome, found, ◌>>=◌, begins_reserved, begins_name, is_empty, many, init_at, decl_at, stmt_at, next_at, stop_at, exit_at, task_at, tasks_at, program_at}
+use Rattle.task_text.proofs.TokenLaws.{sign-complete, reserved-begins, reserved-complete, name-complete, number-complete}
 use Rattle.task_text.proofs.ExprComplete.{measured, expr-complete}
 use Rattle.task_text.proofs.Items.{many-end}
 use Rattle.task_text.proofs.ItemsSound.{stmt-some, decl-some}

@@ -1,7 +1,6 @@
 -- Declarations, statements, exits, tasks and programs that are read are in the grammar.
-use Rattle.std.proofs.Common.{◌≡◌, ℕ, zero, suc, ◌+◌, ◌<◌, ◌≤◌, Bool, true, false, cond, eqb, List, [], ◌∷◌, ◌++◌, length, Option, Some, None, Result, Ok, Err, refl, sym, ap, subst, ◌∙◌, arith, ◌⊎◌, inl, inr, append_assoc, append-nil, length-append}
+use Rattle.std.proofs.Common.{◌≡◌, ℕ, zero, suc, ◌<◌, Bool, true, false, eqb, List, [], ◌∷◌, ◌++◌, length, None, Ok, Err, refl, sym, ap, subst, ◌∙◌, arith, ◌⊎◌, inl, inr, append_assoc, append-nil, length-append}
 use Rattle.std.proofs.lemmas.Bool.{cond-true, cond-false, cases_Bool, eqb-true, eqb-false}
-use Rattle.ease_base.specs.declared.place.Pos.{Pos}
 use Rattle.task_ast.specs.declared.tree.Decl.{Decl}
 use Rattle.task_ast.specs.declared.tree.Decl.TheVariants as decl
 use Rattle.task_ast.specs.declared.tree.Stmt.TheVariants as stmt
@@ -16,7 +15,7 @@ use Rattle.task_text.specs.declared.token.Token.{Token}
 use Rattle.task_text.specs.Grammar.{symbol, reserved, number, name, IsInit, IsDecl, IsStmt, IsExit, IsTask, IsProgram, AreAll, deepest}
 use Rattle.task_text.specs.Reading.{Found, Outcome, found, ◌>>=◌, begins_sign, begins_reserved, begins_name, is_empty, sign_at, reserved_at, name_at, number_at, expr_at, many, init_at, decl_at, stmt_at, stmts_at, next_at, stop_at, exit_at, task_at, decls_at, tasks_at, whole, program_at}
 use Rattle.task_text.proofs.TokenLaws.{not_found, same_found, bind_found, sign-sound, reserved-sound, name-sound, number-sound}
-use Rattle.task_text.proofs.ExprSound.{ExprOff, expr-sound}
+use Rattle.task_text.proofs.ExprSound.{expr-sound}
 use Rattle.task_text.proofs.Items.{Takes}
 
 -- the tokens begin with the tree, and go on with the rest

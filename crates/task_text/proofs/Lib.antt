@@ -5,6 +5,7 @@ pub mod CutLemmas
 pub mod CutSound
 pub mod DivisionLaws
 pub mod DivisionSteps
+pub mod Examples
 pub mod ExprComplete
 pub mod ExprSound
 pub mod Items
@@ -16,3 +17,4 @@ pub mod Stays
 pub mod Tables
 pub mod Terms
 pub mod TokenLaws
+pub mod Totality

@@ -1,5 +1,5 @@
 -- A text is at most one program, or refused; not both.
-use Rattle.std.proofs.Common.{◌≡◌, ◌≢◌, ℕ, suc, ◌+◌, ◌<◌, Bool, true, false, List, [], ◌∷◌, ◌++◌, length, get_or, take, drop, Option, Some, None, Result, Ok, Err, refl, sym, ap, subst, ◌∙◌, arith, ◌⊎◌, inl, inr, append_assoc}
+use Rattle.std.proofs.Common.{◌≡◌, ◌≢◌, ℕ, suc, ◌<◌, true, false, List, [], ◌∷◌, ◌++◌, length, get_or, take, drop, Result, Ok, Err, refl, sym, ap, subst, ◌∙◌, inl, inr}
 use Rattle.std.proofs.Math.Seq.{drop-cons}
 use Rattle.std.proofs.lemmas.Bool.{false≢true}
 use Rattle.std.proofs.lemmas.List.{take-append-drop}
@@ -13,11 +13,11 @@ use Rattle.task_text.specs.declared.token.Lexeme.TheVariants as lexeme
 use Rattle.task_text.specs.declared.divide.Divided.{Divided}
 use Rattle.task_text.specs.declared.error.TextError.{TextError}
 use Rattle.task_text.specs.declared.error.TextError.TheVariants.{Syntax, NumberTooWide, NoMemory}
-use Rattle.task_text.specs.Division.{Piece, Divides, BreaksAt, start, tokens_of, end_of}
+use Rattle.task_text.specs.Division.{Piece, BreaksAt, start, tokens_of, end_of}
 use Rattle.task_text.specs.Divided.{IsDivided}
 use Rattle.task_text.specs.Grammar.{IsProgram}
-use Rattle.task_text.specs.Reading.{Found, Outcome, found, first_place, program_at}
-use Rattle.task_text.specs.Reads.{Reads, Refuses, IsCause, IsNarrow, IsFirstTooWide, IsTooWideAt, HasNoTree, IsPlaceAmong, Answers, IsReading, IsFirstWide, IsResult, is_too_wide}
+use Rattle.task_text.specs.Reading.{Found, found, first_place, program_at}
+use Rattle.task_text.specs.Reads.{Reads, Refuses, IsCause, IsNarrow, IsFirstTooWide, IsTooWideAt, IsPlaceAmong, Answers, IsReading, IsResult, is_too_wide}
 use Rattle.task_text.proofs.DivisionLaws as division
 use Rattle.task_text.proofs.ItemsSound.{program-sound}
 use Rattle.task_text.proofs.ItemsComplete.{program-complete}

@@ -1,8 +1,8 @@
 -- The tables of reserved words and signs, looked up.
-use Rattle.std.proofs.Common.{◌≡◌, ℕ, suc, ◌+◌, ◌<◌, ◌≤◌, Bool, true, false, not, ◌&&◌, ◌||◌, ◌==◌, cond, eqb, List, [], ◌∷◌, ◌++◌, length, take, drop, Option, Some, None, refl, sym, ap, ◌∙◌, arith, ◌⊎◌, inl, inr, eqb-true, take-append-drop, codes}
+use Rattle.std.proofs.Common.{◌≡◌, ℕ, Bool, true, false, ◌&&◌, ◌||◌, ◌==◌, eqb, List, [], ◌∷◌, ◌++◌, length, take, drop, Some, refl, sym, ap, ◌∙◌, ◌⊎◌, inl, inr, eqb-true, take-append-drop, codes}
 use Rattle.std.proofs.lemmas.Bool.{and_parts, cond-true, cond-false, cases_Bool, false≢true, or_parts, or_from}
 use Rattle.std.proofs.lemmas.Option.{none-some, same_Some}
-use Rattle.std.specs.List.{find, starts_with, list_all}
+use Rattle.std.specs.List.{find, starts_with}
 use Rattle.std.specs.Cmp.Lexicographic.{pointwise}
 use Rattle.task_text.specs.declared.token.Keyword.{Keyword}
 use Rattle.task_text.specs.declared.token.Keyword.TheVariants as keyword
@@ -10,7 +10,7 @@ use Rattle.task_text.specs.declared.token.Sign.{Sign}
 use Rattle.task_text.specs.declared.token.Sign.TheVariants as sign
 use Rattle.task_text.specs.declared.token.Lexeme.TheVariants.{Symbol}
 use Rattle.task_text.specs.declared.token.TheConstants.{KEYWORDS, SIGNS}
-use Rattle.task_text.specs.Spelling.{letters, marks, longer, is_among, is_letter, is_word_byte, MayStandBefore}
+use Rattle.task_text.specs.Spelling.{letters, marks, longer, is_among, MayStandBefore}
 use Rattle.task_text.specs.Cutting.{keyword_of, sign_of}
 
 find-first : {X : Type 0} (p : X → Bool) (y : X) (ys : List X) (x : X) → find p (y ∷ ys) ≡ Some x → (find p ys ≡ Some x → p x ≡ true) → (p y ≡ true) ⊎ (p y ≡ false) → p x ≡ true

@@ -1,5 +1,5 @@
 -- A sum is read term by term.
-use Rattle.std.proofs.Common.{◌≡◌, ℕ, zero, suc, ◌+◌, ◌-◌, ◌<◌, ◌≤◌, max, Bool, true, false, cond, ltb, List, Result, Ok, Err, refl, sym, ap, subst, ◌∙◌, arith}
+use Rattle.std.proofs.Common.{◌≡◌, ℕ, zero, suc, ◌+◌, ◌-◌, ◌<◌, ◌≤◌, true, false, ltb, List, Result, Err, refl, sym, ap, subst, ◌∙◌, arith}
 use Rattle.std.proofs.lemmas.Bool.{cond-true, cond-false, lt-ltb, le-ltb}
 use Rattle.ease_base.specs.declared.place.Pos.{Pos}
 use Rattle.task_text.specs.declared.token.Sign.TheVariants.{Plus, ParenOpen}
@@ -7,7 +7,7 @@ use Rattle.task_text.specs.declared.token.Token.{Token}
 use Rattle.task_text.specs.declared.error.ReadError.{ReadError}
 use Rattle.task_text.specs.declared.error.ReadError.TheVariants.{Syntax, NoMemory}
 use Rattle.task_text.specs.declared.expr.Deep.{Deep}
-use Rattle.task_text.specs.Reading.{Found, Outcome, Gives, paren_of, atom_at, found, ◌>>=◌, begins_sign, sign_at, part_of, part_at, expr_at, sum, sum_from}
+use Rattle.task_text.specs.Reading.{Outcome, Gives, paren_of, atom_at, found, ◌>>=◌, begins_sign, sign_at, part_of, part_at, expr_at, sum, sum_from}
 
 -- what is read of a sum so far, and what goes on behind it
 pub record Terms (allowed : ℕ) (old : List Token) (left : Deep) (ts : List Token) : Type 0 where

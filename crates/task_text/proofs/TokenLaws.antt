@@ -1,7 +1,7 @@
 -- The readings of one token: what is read is there, and what is there is read.
-use Rattle.std.proofs.Common.{◌≡◌, ℕ, ◌+◌, ◌<◌, ◌≤◌, Bool, true, false, cond, List, [], ◌∷◌, ◌++◌, length, Result, Ok, Err, Option, Some, None, refl, sym, ap, subst, ◌∙◌, arith, ◌⊎◌, inl, inr}
+use Rattle.std.proofs.Common.{◌≡◌, ℕ, true, false, cond, List, [], ◌∷◌, Ok, Err, refl, sym, ap, ◌∙◌, ◌⊎◌, inl, inr}
 use Rattle.std.proofs.lemmas.Bool.{cond-true, cond-false, cases_Bool, false≢true}
-use denote.Enum.Bare.{sameb, same_true, true_same}
+use denote.Enum.Bare.{same_true, true_same}
 use Rattle.ease_base.specs.declared.place.Pos.{Pos}
 use Rattle.task_ast.specs.declared.tree.Name.{Name}
 use Rattle.task_text.specs.declared.token.Keyword.{Keyword}

@@ -5,9 +5,7 @@ use Rattle.std.specs.Option.{option_map}
 use Rattle.std.specs.List.{starts_with, take_while}
 use Rattle.std.specs.Cmp.Lexicographic.{pointwise}
 use Rattle.task_text.specs.declared.token.Keyword.{Keyword}
-use Rattle.task_text.specs.declared.token.Keyword.TheVariants as keyword
 use Rattle.task_text.specs.declared.token.Sign.{Sign}
-use Rattle.task_text.specs.declared.token.Sign.TheVariants as sign
 use Rattle.task_text.specs.declared.token.Lexeme.{Lexeme}
 use Rattle.task_text.specs.declared.token.Lexeme.TheVariants.{Name, Number, TooWide, Reserved, Symbol}
 use Rattle.task_text.specs.declared.cut.Cut.{Cut}

@@ -1,5 +1,5 @@
 -- The division of a text into tokens, and the white space and comments between them (docs/LANGUAGE.md, "Tokens").
-use Rattle.std.specs.Prelude.{◌≡◌, ◌≢◌, ℕ, ◌+◌, ◌<◌, Bool, true, false, not, ◌&&◌, ◌||◌, if◌then◌else◌, ◌==◌, IsTrue, ◌⊎◌, List, [], ◌∷◌, ◌++◌, fold, Option, Some, None, codes}
+use Rattle.std.specs.Prelude.{◌≡◌, ◌≢◌, ℕ, ◌+◌, ◌<◌, Bool, false, not, ◌&&◌, ◌||◌, if◌then◌else◌, ◌==◌, IsTrue, ◌⊎◌, List, [], ◌∷◌, ◌++◌, fold, Option, Some, None, codes}
 use Rattle.std.specs.List.{list_all}
 use Rattle.ease_base.specs.declared.place.Pos.{Pos}
 use Rattle.task_text.specs.declared.token.Lexeme.{Lexeme}

@@ -5,7 +5,6 @@ use Rattle.ease_base.specs.declared.place.Pos.{Pos}
 use Rattle.task_ast.specs.declared.tree.Op2.TheVariants.{Add}
 use Rattle.task_ast.specs.declared.tree.Kind.TheVariants.{Nv}
 use Rattle.task_ast.specs.declared.tree.Name.{Name}
-use Rattle.task_ast.specs.declared.tree.Expr.{Expr}
 use Rattle.task_ast.specs.declared.tree.Expr.TheVariants as expr
 use Rattle.task_ast.specs.declared.tree.Target.TheVariants as target
 use Rattle.task_ast.specs.declared.tree.Stmt.{Stmt}

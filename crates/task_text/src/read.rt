@@ -1,5 +1,5 @@
 //! Reads a program from its bytes.
-ghost use Rattle.std.specs.Prelude.{◌≡◌, ◌<◌, length, List, ℕ, IfOk, IfErr, Ok, Err};
+ghost use Rattle.std.specs.Prelude.{◌≡◌, ◌<◌, ◌⊎◌, length, List, ℕ, IfOk, IfErr, Ok, Err};
 ghost use Rattle.ease_base.specs.declared.place.Pos.{Pos};
 ghost use Rattle.task_ast.specs.declared.tree.Program.{Program};
 ghost use Rattle.task_ast.specs.Counters.{IsCounterProgram};
@@ -93,7 +93,8 @@ pub fn one_tree()
     ensures { (text : List ℕ) (p q : Program) → Reads text p → Reads text q → p ≡ q }
 {}
 
-/// No text is both a program and refused.
+/// Each text is a program or refused, and none is both.
 pub fn read_or_refused()
-    ensures { (text : List ℕ) (p : Program) (e : TextError) → Reads text p → Refuses text e → ⊥ }
+    ensures one { (text : List ℕ) → ((p : Program) × Reads text p) ⊎ ((e : TextError) × Refuses text e) }
+    ensures not_both { (text : List ℕ) (p : Program) (e : TextError) → Reads text p → Refuses text e → ⊥ }
 {}

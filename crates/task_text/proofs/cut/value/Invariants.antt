@@ -1,4 +1,4 @@
-use Rattle.std.proofs.Common.{◌≡◌, ◌≤◌, ◌^◌, min, take}
+use Rattle.std.proofs.Common.{◌≡◌, ◌^◌, min, take}
 use Rattle.task_text.specs.Spelling.{value}
 use Rattle.task_text.proofs.cut.value.Given as goal
 

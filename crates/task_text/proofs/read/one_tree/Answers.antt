@@ -1,5 +1,4 @@
-use Rattle.task_text.proofs.DivisionLaws as division
-use Rattle.task_text.proofs.ReadLaws.{one_tree_law, not_both}
+use Rattle.task_text.proofs.ReadLaws.{one_tree_law}
 use Rattle.task_text.proofs.read.one_tree.Goals as goal
 
 pub returns : goal.returns

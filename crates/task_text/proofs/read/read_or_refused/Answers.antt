@@ -1,6 +1,6 @@
-use Rattle.task_text.proofs.DivisionLaws as division
-use Rattle.task_text.proofs.ReadLaws.{one_tree_law, not_both}
+use Rattle.task_text.proofs.ReadLaws.{not_both}
+use Rattle.task_text.proofs.Totality.{read_or_refused_law}
 use Rattle.task_text.proofs.read.read_or_refused.Goals as goal
 
 pub returns : goal.returns
-returns c = not_both
+returns c = record { one = read_or_refused_law; not_both = not_both }

@@ -1,6 +1,5 @@
 use Rattle.std.proofs.Common.{sym, subst, ◌∙◌, refl}
 use Rattle.std.proofs.lemmas.Result.{err_from_is_err_and}
-use Rattle.task_text.specs.declared.token.Keyword.TheVariants as keyword
 use Rattle.task_text.specs.Reading.{begins_name, stmt_at}
 use Rattle.task_text.proofs.Items.{Items, Items-more, Items-break, Items-all}
 use Rattle.task_text.proofs.ItemsSound.{stmt-takes}

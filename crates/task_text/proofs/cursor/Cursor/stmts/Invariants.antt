@@ -1,5 +1,4 @@
 use Rattle.std.proofs.Common.{length}
-use Rattle.task_text.specs.declared.token.Keyword.TheVariants as keyword
 use Rattle.task_text.specs.Reading.{begins_name, stmt_at}
 use Rattle.task_text.proofs.Items.{Items}
 use Rattle.task_text.proofs.cursor.Cursor.stmts.Given as goal
