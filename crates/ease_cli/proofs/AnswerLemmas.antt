@@ -9,7 +9,7 @@ use Rattle.task_check.specs.Faults.{Accepted}
 use Rattle.task_text.specs.Reads.{Reads, Refuses}
 use Rattle.ease_cli.specs.declared.status.Status.{Status}
 use Rattle.ease_cli.specs.declared.status.Status.TheVariants as status
-use Rattle.ease_cli.specs.Answer.{ProgramSays, SourceSays, Says, Writes, IsSource, IsWalkText, IsSourceLine, unread, unaccepted, OfSource}
+use Rattle.ease_cli.specs.Answer.{ProgramSays, SourceSays, Says, Writes, IsAccepted, ProgramSettles, SourceSettles, Settles, IsSource, IsWalkText, IsSourceLine, unread, unaccepted, OfSource}
 use Rattle.ease_cli.specs.Lines.{text_line}
 
 -- what is said of the tree that reads a source is said of the source
@@ -56,10 +56,35 @@ writes-whole words told contents status.TooLong text before after said is = (tex
 writes-whole words told contents status.WriteFault text before after said is = absurd said
 writes-whole words told contents status.NoMemory text before after said is = absurd said
 
--- where the reader answered one program and the text is another, they are the same, and so is what is accepted
-pub accepted-same : (a p : Program) → ◌≡◌ {A = Result Program TextError} (Ok a) (Ok p) → Accepted p → Accepted a
-accepted-same a p same accepted = subst Accepted (let e : p ≡ a = cc in e) accepted
+-- where the reader answered one program, the text is no other
+pub same-program : (a p : Program) → ◌≡◌ {A = Result Program TextError} (Ok a) (Ok p) → p ≡ a
+same-program a p same = cc
 
 -- a reader that refused has answered no program
-pub refused-answers-none : {A : Type 0} (e : TextError) (p : Program) → ◌≡◌ {A = Result Program TextError} (Err e) (Ok p) → A
-refused-answers-none e p same = absurd (let no_way : ⊥ = cc in no_way)
+pub refused-answers-none : (e : TextError) (p : Program) → ◌≡◌ {A = Result Program TextError} (Err e) (Ok p) → ⊥
+refused-answers-none e p same = cc
+
+-- the status of the one tree that reads a source is that of the source
+pub source-settles : (source : List ℕ) (program : Program) (s : Status) → Reads source program → ((p : Program) → Reads source p → p ≡ program) → ProgramSettles program s → SourceSettles source s
+source-settles source program status.Ok reads only settled = record { program = program; reads = reads; accepted = settled }
+source-settles source program status.SourceRefused reads only settled = λ a. settled (subst Accepted (only a.program a.reads) a.accepted)
+source-settles source program status.Usage reads only settled = settled
+source-settles source program status.ReadFault reads only settled = settled
+source-settles source program status.WriteFault reads only settled = settled
+source-settles source program status.TooLong reads only settled = settled
+source-settles source program status.NoMemory reads only settled = settled
+
+-- a refusal is the status of a source that no tree reads
+pub refusal-settles : {A E : Type 0} (status_of : A → Status) (Q : A → Type 0) (source : List ℕ) (r : Result A E) → (IsAccepted source → ⊥) → IfOk r (λ a. (status_of a ≡ status.SourceRefused) × Q a) → IfOk r (λ a. SourceSettles source (status_of a))
+refusal-settles status_of Q source r none = IfOk-weaker r (λ a. (status_of a ≡ status.SourceRefused) × Q a) (λ a. SourceSettles source (status_of a))
+    (λ a made. subst (SourceSettles source) (sym made.0) none)
+
+-- a source's status is that of the command
+pub command-settles : (source : List ℕ) (s : Status) → SourceSettles source s → Settles source s
+command-settles source status.Ok settled = settled
+command-settles source status.SourceRefused settled = settled
+command-settles source status.Usage settled = settled
+command-settles source status.ReadFault settled = settled
+command-settles source status.WriteFault settled = settled
+command-settles source status.TooLong settled = settled
+command-settles source status.NoMemory settled = tt

@@ -89,16 +89,34 @@ abbrev pub IsTooLong : List (List ℕ) → Bool → Contents → Type 0
 IsTooLong words told contents =
     IsTrue told → (file : List ℕ) × (tasks : ℕ) × (bytes : List ℕ) × IsWalk words file tasks × (contents file ≡ Some bytes) × (65536 < length bytes)
 
--- Nothing in the words and the files stands in the way of a walk: told contents have the file of the words,
--- it isn't too long, a tree reads it, and the tree is accepted.
-pub record CanWalk (words : List (List ℕ)) (told : Bool) (contents : Contents) : Type 0 where
+-- The words ask to walk a file that told contents have, with these bytes, and that isn't too long.
+pub record IsThere (words : List (List ℕ)) (told : Bool) (contents : Contents) (source : List ℕ) : Type 0 where
   pub file : List ℕ
   pub tasks : ℕ
   pub asked : IsWalk words file tasks
   pub tells : IsTrue told
-  pub source : List ℕ
   pub there : contents file ≡ Some source
   pub short : length source ≤ 65536
+
+-- a tree reads the source, and it is accepted
+pub record IsAccepted (source : List ℕ) : Type 0 where
   pub program : Program
   pub reads : Reads source program
   pub accepted : Accepted program
+
+-- the status of a tree that was read: Ok exactly where it is accepted
+abbrev pub ProgramSettles : Program → Status → Type 0
+ProgramSettles program Ok = Accepted program
+ProgramSettles program SourceRefused = Accepted program → ⊥
+ProgramSettles program _ = ⊥
+
+-- the status of a source: Ok exactly where a tree reads it that is accepted, else SourceRefused
+abbrev pub SourceSettles : List ℕ → Status → Type 0
+SourceSettles source Ok = IsAccepted source
+SourceSettles source SourceRefused = IsAccepted source → ⊥
+SourceSettles source _ = ⊥
+
+-- the same, or memory ran out
+abbrev pub Settles : List ℕ → Status → Type 0
+Settles source NoMemory = Unit {0}
+Settles source status = SourceSettles source status

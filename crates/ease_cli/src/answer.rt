@@ -1,12 +1,9 @@
 //! What a command line says: a status, and the bytes that are written with it.
 ghost use Rattle.std.specs.Prelude.{◌≡◌, ◌≢◌, ℕ, List, ◌≤◌, IfOk, OnOk, length, map, string_bytes};
 ghost use Rattle.ease_base.specs.Count.{HasRisen};
-ghost use Rattle.ease_cli.specs.Answer.{Says, SourceSays, ProgramSays, CanWalk, FetchFailed, IsTooLong};
+ghost use Rattle.ease_cli.specs.Answer.{Says, SourceSays, ProgramSays, IsThere, SourceSettles, ProgramSettles, FetchFailed, IsTooLong};
 ghost use Rattle.ease_cli.specs.Lines.{check_line};
 ghost use Rattle.task_ast.specs.Counters.{IsCounterProgram};
-ghost use Rattle.task_ast.specs.declared.tree.Program.{Program as Tree};
-ghost use Rattle.task_check.specs.Faults.{Accepted};
-ghost use Rattle.task_text.specs.Reads.{Reads};
 
 use crate::form::{WalkWords, walk_words};
 use crate::lines::{READ_FAULT, TOO_LONG, USAGE, limit_line, source_line, syntax_line};
@@ -41,8 +38,8 @@ pub fn command_answer<C: Cabinet>(
         → HasRisen (C.long_contents files.old) (C.long_contents files.new)) }
     ensures longer { IfOk result (λ a. a.status ≡ Status.TooLong
         → IsTooLong (map string_bytes words.now) (C.told files.old) (C.contents files.old)) }
-    ensures complete { CanWalk (map string_bytes words.now) (C.told files.old) (C.contents files.old)
-        → (HasRisen (C.faults files.old) (C.faults files.new) → ⊥) → IfOk result (λ a. a.status ≡ Status.Ok) }
+    ensures settled { (source : List ℕ) → IsThere (map string_bytes words.now) (C.told files.old) (C.contents files.old) source
+        → (HasRisen (C.faults files.old) (C.faults files.new) → ⊥) → IfOk result (λ a. SourceSettles source a.status) }
     ensures told { C.told files.new ≡ C.told files.old }
     ensures contents { (name : List ℕ) → C.contents files.new name ≡ C.contents files.old name }
     ensures faults { C.faults files.old ≤ C.faults files.new }
@@ -64,7 +61,7 @@ fn source_answer(alloc: Global, source: &[u8], tasks: u32) -> Result<Answer, NoM
     requires short { length source.now ≤ 65536 }
     requires few { tasks ≤ 1000 }
     ensures says { IfOk result (λ a. SourceSays source.now tasks a.status a.text) }
-    ensures complete { (p : Tree) → Reads source.now p → Accepted p → IfOk result (λ a. a.status ≡ Status.Ok) }
+    ensures settled { IfOk result (λ a. SourceSettles source.now a.status) }
 {
     match read_program(alloc, source) {
         Ok(program) => program_answer(alloc, &program, tasks),
@@ -79,7 +76,7 @@ fn program_answer(alloc: Global, program: &Program, tasks: u32) -> Result<Answer
     requires counters { IsCounterProgram program.now }
     requires few { tasks ≤ 1000 }
     ensures says { IfOk result (λ a. ProgramSays program.now tasks a.status a.text) }
-    ensures complete { Accepted program.now → IfOk result (λ a. a.status ≡ Status.Ok) }
+    ensures settled { IfOk result (λ a. ProgramSettles program.now a.status) }
 {
     let core = match check(alloc, program) {
         Ok(core) => core,

@@ -1,7 +1,7 @@
 //! The one public call: words, files and output of a command.
 ghost use Rattle.std.specs.Prelude.{◌≡◌, ◌⊎◌, ℕ, List, ◌≤◌, map, string_bytes};
 ghost use Rattle.ease_base.specs.Count.{HasRisen};
-ghost use Rattle.ease_cli.specs.Answer.{Says, Writes, CanWalk, FetchFailed, IsTooLong};
+ghost use Rattle.ease_cli.specs.Answer.{Says, Writes, IsThere, Settles, FetchFailed, IsTooLong};
 ghost use Rattle.ease_cli.specs.Form.{IsNoCommand};
 
 use crate::answer::{Answer, command_answer};
@@ -30,10 +30,11 @@ pub fn ease<C: Cabinet, K: Sink>(
         → HasRisen (C.long_contents files.old) (C.long_contents files.new)
         × IsTooLong (map string_bytes words.now) (C.told files.old) (C.contents files.old) }
 
-    // Where nothing stands in the way, a walk is carried out.
-    ensures complete { CanWalk (map string_bytes words.now) (C.told files.old) (C.contents files.old)
+    // Where the file is there and nothing fails, the status is Ok exactly where the source is accepted, else
+    // SourceRefused.
+    ensures settled { (source : List ℕ) → IsThere (map string_bytes words.now) (C.told files.old) (C.contents files.old) source
         → (HasRisen (C.faults files.old) (C.faults files.new) → ⊥) → (HasRisen (K.faults out.old) (K.faults out.new) → ⊥)
-        → (result ≡ Status.Ok) ⊎ (result ≡ Status.NoMemory) }
+        → Settles source result }
 
     ensures contents { (name : List ℕ) → C.contents files.new name ≡ C.contents files.old name }
     ensures told { C.told files.new ≡ C.told files.old }

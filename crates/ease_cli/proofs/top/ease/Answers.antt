@@ -1,6 +1,6 @@
 use Rattle.std.proofs.Common.{map, string_bytes, ap, ◌∙◌}
 use Rattle.ease_base.specs.Sink.{extended}
-use Rattle.ease_cli.proofs.AnswerLemmas.{writes-whole}
+use Rattle.ease_cli.proofs.AnswerLemmas.{writes-whole, command-settles}
 use Rattle.ease_cli.proofs.top.ease.Goals as goal
 
 pub returns-in-Ok-send_all-clause-written : goal.returns-in-Ok-send_all-clause-written
@@ -9,3 +9,7 @@ returns-in-Ok-send_all-clause-written g c =
     writes-whole (map string_bytes c.args.words.now) (g.C.Cabinet.told c.args.files.now) (g.C.Cabinet.contents c.args.files.now)
     c.in-Ok.answer.status c.in-Ok.answer.text before _ c.in-Ok.ensures.says
     (c.in-Ok-send_all.ensures.whole ∙ ap (extended before) c.as_slice.ensures)
+
+pub returns-in-Ok-send_all-clause-settled : goal.returns-in-Ok-send_all-clause-settled
+returns-in-Ok-send_all-clause-settled g c = λ source there files_held out_held.
+    command-settles source c.in-Ok.answer.status (c.in-Ok.ensures.settled source there files_held)
