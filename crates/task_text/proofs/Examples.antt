@@ -287,3 +287,51 @@ nothing-has_no_tree = record {
   none = λ p h. not_found p [] [] (program-complete p [] h);
   place = inr refl;
 }
+
+-- ---- the shortest program, with no space that it can do without
+
+abbrev stop : List ℕ
+stop = codes "task t{STOP;}"
+
+free-t : (k : Keyword) → codes "t" ≢ letters k
+unfolding keyword_of
+free-t = free (codes "t") refl
+
+abbrev stop_pieces : List Piece
+stop_pieces =
+    word (codes "task") keyword.Task ∷ space ∷ name (codes "t") ∷ sign_piece (codes "{") (Symbol sign.BraceOpen)
+    ∷ word (codes "STOP") keyword.Stop ∷ sign_piece (codes ";") (Symbol sign.Semicolon) ∷ sign_piece (codes "}") (Symbol sign.BraceClose) ∷ []
+
+stop-divides : Divides stop stop_pieces
+stop-divides = record {
+  whole = refl;
+  each = ((refl, refl), (inl (32, refl, refl), (((refl, refl, free-t), refl), ((refl, refl), ((refl, refl), ((refl, refl), ((refl, tt), tt)))))));
+}
+
+abbrev stop_tree : Program
+stop_tree = record {
+  decls = [];
+  tasks = record { name = named (codes "t") 6; body = []; exit = exit.Stop; close = at 13 } ∷ [];
+}
+
+stop-program : IsProgram stop_tree (tokens_of start stop_pieces)
+stop-program =
+    let ending = grammar.reserved keyword.Stop (at 8) ∷ grammar.symbol sign.Semicolon (at 12) ∷ [] in
+    let task = grammar.reserved keyword.Task (at 1) ∷ grammar.name (named (codes "t") 6) ∷ grammar.symbol sign.BraceOpen (at 7) ∷ ([] ++ (ending ++ grammar.symbol sign.BraceClose (at 13) ∷ [])) in
+    record {
+      front = [];
+      back = task;
+      whole = refl;
+      decls = refl;
+      tasks = (
+        task,
+        [],
+        refl,
+        record { at_task = at 1; at_brace = at 7; body = []; ending = ending; whole = refl; stmts = refl; exit = (at 8, at 12, refl) },
+        refl,
+      );
+      some = lit< tt;
+    }
+
+pub stop-reads : Reads stop stop_tree
+stop-reads = record { pieces = stop_pieces; divides = stop-divides; narrow = narrow-by (tokens_of start stop_pieces) refl; program = stop-program }
