@@ -1,0 +1,4 @@
+mod Examples
+mod PlaceLemmas
+mod ReservedLemmas
+mod TableLemmas
