@@ -1,4 +1,3 @@
 mod Examples
-mod PlaceLemmas
 mod ReservedLemmas
 mod TableLemmas

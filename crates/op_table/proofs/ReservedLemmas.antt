@@ -8,7 +8,7 @@ use Rattle.std.proofs.lemmas.Bool.Decides.{Decides-eqb}
 use Rattle.op_table.specs.Places.{IsAt, StandsTwice, place_of, repeats}
 use Rattle.op_table.specs.Reserved.{reserved_words}
 use Rattle.op_table.specs.Table.{Entry, names}
-use Rattle.op_table.proofs.PlaceLemmas.{repeats-Decides}
+use Rattle.op_table.specs.PlaceLemmas.{repeats-Decides}
 
 -- the codes of their rows
 abbrev pub word_codes : List ℕ

@@ -11,7 +11,7 @@ use Rattle.std.proofs.lemmas.Bool.Decides.{Decides-eqb}
 use Rattle.op_table.specs.declared.table.Row.{Row}
 use Rattle.op_table.specs.Places.{IsAt, StandsTwice, place_of, repeats}
 use Rattle.op_table.specs.Table.{Entry, HasTwins, entry_of, entries, codes, names}
-use Rattle.op_table.proofs.PlaceLemmas.{position-map, found_exactly, missed_exactly, repeats-Decides, place_within, repeats_more, repeats_end}
+use Rattle.op_table.specs.PlaceLemmas.{position-map, found_exactly, missed_exactly, repeats-Decides, place_within, repeats_more, repeats_end}
 
 -- the first row with a code
 pub first_code : (rows : List Row) (code : ℕ) → position (λ row. eqb row.code code) rows ≡ place_of eqb code (codes (entries rows))

@@ -9,6 +9,7 @@ pub record Entry : Type 0 where
   pub name : List ℕ
   pub form : ℕ
 
+-- the entry of a row
 abbrev pub entry_of : Row → Entry
 entry_of row = record { code = row.code; name = row.name.now; form = row.form }
 

@@ -15,7 +15,8 @@ pub struct Row<'a> {
     pub form: u8,
 }
 
-/// Rows with distinct codes and distinct names.
+/// N rows with distinct codes and distinct names. They are held as a slice, since the borrow checker covers no array of
+/// references whose length is a parameter.
 #[derive(Drop)]
 pub struct Table<'a, const N: usize> {
     rows: &'a [Row<'a>],
@@ -101,7 +102,7 @@ fn codes_repeat(rows: &[Row]) -> bool
     codes_repeat(behind)
 }
 
-// Whether a name stands at two places.
+// Whether a name stands at two places. It goes as deep as there are rows, and is asked only where the codes are distinct.
 fn names_repeat(rows: &[Row]) -> bool
     ensures { result ≡ repeats bytes_eq (names (entries rows.now)) }
 {
