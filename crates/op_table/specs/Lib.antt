@@ -1,0 +1,5 @@
+pub mod Clear
+pub mod PlaceLemmas
+pub mod Places
+pub mod Reserved
+pub mod Table

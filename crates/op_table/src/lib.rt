@@ -1,0 +1,11 @@
+//! Tables of rows whose codes and names are distinct, and the reserved words.
+#![tactic(auto)]
+
+mod macros;
+mod table;
+#[cfg(test)]
+mod tests;
+mod words;
+
+pub use table::{Row, Table};
+pub use words::reserved;
