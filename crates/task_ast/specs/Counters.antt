@@ -1,14 +1,10 @@
 -- The part of the language that is read, checked and run today: tasks that count.
 use Rattle.std.specs.Prelude.{◌≡◌, ◌<◌, ◌≤◌, length, None}
 use Rattle.std.specs.List.{AllByRecursion}
-use Rattle.task_ast.specs.declared.tree.Op2.{Op2}
 use Rattle.task_ast.specs.declared.tree.Op2.TheVariants.{Add}
-use Rattle.task_ast.specs.declared.tree.Kind.{Kind}
 use Rattle.task_ast.specs.declared.tree.Kind.TheVariants.{Nv}
-use Rattle.task_ast.specs.declared.tree.Name.{Name}
 use Rattle.task_ast.specs.declared.tree.Expr.{Expr, end_of-Expr, more_of-Expr}
 use Rattle.task_ast.specs.declared.tree.Expr.TheVariants as expr
-use Rattle.task_ast.specs.declared.tree.Target.{Target}
 use Rattle.task_ast.specs.declared.tree.Target.TheVariants as target
 use Rattle.task_ast.specs.declared.tree.Stmt.{Stmt}
 use Rattle.task_ast.specs.declared.tree.Stmt.TheVariants as stmt

@@ -3,5 +3,10 @@ pub mod CoreExpressions
 pub mod CoreStatements
 pub mod Counters
 pub mod Exits
+pub mod NameToken
+pub mod Readable
+pub mod Rows
+pub mod Sizes
 pub mod Expressions
 pub mod Statements
+pub mod WellFormed
