@@ -9,7 +9,7 @@ use Rattle.task_check.specs.Faults.{Accepted}
 use Rattle.task_text.specs.Reads.{Reads, Refuses}
 use Rattle.ease_cli.specs.declared.status.Status.{Status}
 use Rattle.ease_cli.specs.declared.status.Status.TheVariants as status
-use Rattle.ease_cli.specs.Answer.{ProgramSays, SourceSays, Says, Writes, IsAccepted, ProgramSettles, SourceSettles, Settles, IsSource, IsWalkText, IsSourceLine, unread, unaccepted, OfSource}
+use Rattle.ease_cli.specs.Answer.{ProgramSays, SourceSays, Says, Files, NoneWasLong, Writes, IsAccepted, ProgramSettles, SourceSettles, Settles, IsSource, IsWalkText, IsSourceLine, unread, unaccepted, OfSource}
 use Rattle.ease_cli.specs.Lines.{text_line}
 
 -- what is said of the tree that reads a source is said of the source
@@ -29,14 +29,14 @@ source-from_refusal source tasks fault s text refuses is line =
     subst (λ (x : Status). SourceSays source tasks x text) (sym is) (unread fault refuses line)
 
 -- what is said of the source that the words name is what the command line says
-pub says-from_source : (words : List (List ℕ)) (told : Bool) (contents : Contents) (tasks : ℕ) (source : List ℕ) (s : Status) (text : List ℕ) → IsSource words told contents tasks source → SourceSays source tasks s text → Says words told contents s text
-says-from_source words told contents tasks source status.Ok text is said = record { tasks = tasks; source = source; is = is; said = said }
-says-from_source words told contents tasks source status.SourceRefused text is said = record { tasks = tasks; source = source; is = is; said = said }
-says-from_source words told contents tasks source status.Usage text is said = absurd said
-says-from_source words told contents tasks source status.ReadFault text is said = absurd said
-says-from_source words told contents tasks source status.WriteFault text is said = said
-says-from_source words told contents tasks source status.TooLong text is said = absurd said
-says-from_source words told contents tasks source status.NoMemory text is said = said
+pub says-from_source : (words : List (List ℕ)) (f : Files) (tasks : ℕ) (source : List ℕ) (s : Status) (text : List ℕ) → IsSource words f tasks source → NoneWasLong f → SourceSays source tasks s text → Says words f s text
+says-from_source words f tasks source status.Ok text is none said = (none, record { tasks = tasks; source = source; is = is; said = said })
+says-from_source words f tasks source status.SourceRefused text is none said = (none, record { tasks = tasks; source = source; is = is; said = said })
+says-from_source words f tasks source status.Usage text is none said = absurd said
+says-from_source words f tasks source status.ReadFault text is none said = absurd said
+says-from_source words f tasks source status.WriteFault text is none said = said
+says-from_source words f tasks source status.TooLong text is none said = absurd said
+says-from_source words f tasks source status.NoMemory text is none said = said
 
 -- the same through the result that carries the line
 pub refusal-says : {A E : Type 0} (status_of : A → Status) (text_of : A → List ℕ) (source : List ℕ) (tasks : ℕ) (fault : TextError) (line : Result (List ℕ) E) (r : Result A E) → Refuses source fault → IfOk line (λ text. text ≡ text_line fault) → IfOk r (λ a. (status_of a ≡ status.SourceRefused) × (line ≡ Ok (text_of a))) → IfOk r (λ a. SourceSays source tasks (status_of a) (text_of a))
@@ -47,14 +47,19 @@ refusal-says status_of text_of source tasks fault (Ok text) (Err e) refuses is m
 refusal-says status_of text_of source tasks fault (Err d) (Err e) refuses is made = made
 
 -- what is said and then written whole is what a command writes
-pub writes-whole : (words : List (List ℕ)) (told : Bool) (contents : Contents) (s : Status) (text : List ℕ) (before after : Option (List ℕ)) → Says words told contents s text → after ≡ extended before text → Writes (Says words told contents) s before after
-writes-whole words told contents status.Ok text before after said is = (text, said, is)
-writes-whole words told contents status.SourceRefused text before after said is = (text, said, is)
-writes-whole words told contents status.Usage text before after said is = (text, said, is)
-writes-whole words told contents status.ReadFault text before after said is = (text, said, is)
-writes-whole words told contents status.TooLong text before after said is = (text, said, is)
-writes-whole words told contents status.WriteFault text before after said is = absurd said
-writes-whole words told contents status.NoMemory text before after said is = absurd said
+pub writes-whole : (words : List (List ℕ)) (f : Files) (s : Status) (text : List ℕ) (before after : Option (List ℕ)) → Says words f s text → after ≡ extended before text → Writes (Says words f) s before after
+writes-whole words f status.Ok text before after said is = (text, said, is)
+writes-whole words f status.SourceRefused text before after said is = (text, said, is)
+writes-whole words f status.Usage text before after said is = (text, said, is)
+writes-whole words f status.ReadFault text before after said is = (text, said, is)
+writes-whole words f status.TooLong text before after said is = (text, said, is)
+writes-whole words f status.WriteFault text before after said is = absurd said
+writes-whole words f status.NoMemory text before after said is = absurd said
+
+-- a status whose one line was made is what the command line says
+pub line-says : {A E : Type 0} (status_of : A → Status) (text_of : A → List ℕ) (words : List (List ℕ)) (f : Files) (s : Status) (text : List ℕ) (r : Result A E) → Says words f s text → IfOk r (λ a. (status_of a ≡ s) × (text_of a ≡ text)) → IfOk r (λ a. Says words f (status_of a) (text_of a))
+line-says status_of text_of words f s text r said = IfOk-weaker r (λ a. (status_of a ≡ s) × (text_of a ≡ text)) (λ a. Says words f (status_of a) (text_of a))
+    (λ a made. subst (λ (x : Status). Says words f x (text_of a)) (sym made.0) (subst (Says words f s) (sym made.1) said))
 
 -- where the reader answered one program, the text is no other
 pub same-program : (a p : Program) → ◌≡◌ {A = Result Program TextError} (Ok a) (Ok p) → p ≡ a

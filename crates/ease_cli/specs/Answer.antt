@@ -1,7 +1,7 @@
 -- What a command line says: a status, and the bytes that are written with it.
 use Rattle.std.specs.Prelude.{◌≡◌, ◌⊎◌, ℕ, ◌<◌, ◌≤◌, Bool, IsTrue, List, [], length, Option, Some}
 use Rattle.ease_base.specs.Cabinet.{Contents, Brings, Lacks}
-use Rattle.ease_base.specs.Count.{HasRisen}
+use Rattle.ease_base.specs.Count.{HasRisen, raised}
 use Rattle.ease_base.specs.Sink.{extended, TookFront}
 use Rattle.task_ast.specs.declared.tree.Program.{Program}
 use Rattle.task_text.specs.declared.error.TextError.{TextError}
@@ -41,19 +41,33 @@ SourceSays source tasks Ok text = IsWalkText source tasks text
 SourceSays source tasks SourceRefused text = IsSourceLine source text
 SourceSays source tasks _ text = ⊥
 
+-- A cabinet during a command: what it tells, and its two counts before and after.
+pub record Files : Type 0 where
+  pub told : Bool
+  pub contents : Contents
+  pub faults : ℕ
+  pub faults_after : ℕ
+  pub long : ℕ
+  pub long_after : ℕ
+
+-- the same, from what a cabinet means
+abbrev pub files_of : Bool → Contents → ℕ → ℕ → ℕ → ℕ → Files
+files_of told contents faults faults_after long long_after =
+    record { told = told; contents = contents; faults = faults; faults_after = faults_after; long = long; long_after = long_after }
+
 -- The words ask to walk a file, whose contents are the source where contents are told, and which isn't
 -- longer than its limit.
-pub record IsSource (words : List (List ℕ)) (told : Bool) (contents : Contents) (tasks : ℕ) (source : List ℕ) : Type 0 where
+pub record IsSource (words : List (List ℕ)) (f : Files) (tasks : ℕ) (source : List ℕ) : Type 0 where
   pub file : List ℕ
   pub asked : IsWalk words file tasks
-  pub brought : Brings told contents file source
+  pub brought : Brings f.told f.contents file source
   pub short : length source ≤ 65536
 
 -- something is said of the source that the words name
-pub record OfSource (words : List (List ℕ)) (told : Bool) (contents : Contents) (says : ℕ → List ℕ → Type 0) : Type 0 where
+pub record OfSource (words : List (List ℕ)) (f : Files) (says : ℕ → List ℕ → Type 0) : Type 0 where
   pub tasks : ℕ
   pub source : List ℕ
-  pub is : IsSource words told contents tasks source
+  pub is : IsSource words f tasks source
   pub said : says tasks source
 
 -- the words are a command
@@ -62,15 +76,30 @@ pub record IsCommand (words : List (List ℕ)) : Type 0 where
   pub tasks : ℕ
   pub asked : IsWalk words file tasks
 
--- what a command line says
-abbrev pub Says : List (List ℕ) → Bool → Contents → Status → List ℕ → Type 0
-Says words told contents Ok text = OfSource words told contents (λ tasks source. IsWalkText source tasks text)
-Says words told contents SourceRefused text = OfSource words told contents (λ tasks source. IsSourceLine source text)
-Says words told contents Usage text = IsNoCommand words × (text ≡ usage)
-Says words told contents ReadFault text = IsCommand words × (text ≡ read_fault)
-Says words told contents TooLong text = IsCommand words × (text ≡ too_long)
-Says words told contents WriteFault text = ⊥
-Says words told contents NoMemory text = ⊥
+-- Why a file could not be fetched: the count of faults rose, or told contents lack the file.
+abbrev pub FetchFailed : List (List ℕ) → Files → Type 0
+FetchFailed words f =
+    HasRisen f.faults f.faults_after ⊎ ((file : List ℕ) × (tasks : ℕ) × IsWalk words file tasks × Lacks f.told f.contents file)
+
+-- where contents are told, the file of the words is longer than its limit
+abbrev pub IsTooLong : List (List ℕ) → Files → Type 0
+IsTooLong words f =
+    IsTrue f.told → (file : List ℕ) × (tasks : ℕ) × (bytes : List ℕ) × IsWalk words file tasks × (f.contents file ≡ Some bytes) × (65536 < length bytes)
+
+-- no file was too long, and the count of long contents is as it was
+abbrev pub NoneWasLong : Files → Type 0
+NoneWasLong f = f.long_after ≡ f.long
+
+-- What a command line says, with the cause of each refusal; only a file that is too long raises the count of
+-- long contents, and then by one.
+abbrev pub Says : List (List ℕ) → Files → Status → List ℕ → Type 0
+Says words f Ok text = NoneWasLong f × OfSource words f (λ tasks source. IsWalkText source tasks text)
+Says words f SourceRefused text = NoneWasLong f × OfSource words f (λ tasks source. IsSourceLine source text)
+Says words f Usage text = NoneWasLong f × IsNoCommand words × (text ≡ usage)
+Says words f ReadFault text = NoneWasLong f × IsCommand words × FetchFailed words f × (text ≡ read_fault)
+Says words f TooLong text = (f.long_after ≡ raised f.long) × IsCommand words × IsTooLong words f × (text ≡ too_long)
+Says words f WriteFault text = ⊥
+Says words f NoMemory text = ⊥
 
 -- What is written is what is said, and nothing else; after a write fault a front of something that is
 -- said, and after want of memory nothing.
@@ -78,16 +107,6 @@ abbrev pub Writes : (Status → List ℕ → Type 0) → Status → Option (List
 Writes says WriteFault before after = (status : Status) × (text : List ℕ) × says status text × TookFront before after text
 Writes says NoMemory before after = after ≡ before
 Writes says status before after = (text : List ℕ) × says status text × (after ≡ extended before text)
-
--- Why a file could not be fetched: the count of faults rose, or told contents lack the file.
-abbrev pub FetchFailed : List (List ℕ) → Bool → Contents → ℕ → ℕ → Type 0
-FetchFailed words told contents before after =
-    HasRisen before after ⊎ ((file : List ℕ) × (tasks : ℕ) × IsWalk words file tasks × Lacks told contents file)
-
--- where contents are told, the file of the words is longer than its limit
-abbrev pub IsTooLong : List (List ℕ) → Bool → Contents → Type 0
-IsTooLong words told contents =
-    IsTrue told → (file : List ℕ) × (tasks : ℕ) × (bytes : List ℕ) × IsWalk words file tasks × (contents file ≡ Some bytes) × (65536 < length bytes)
 
 -- The words ask to walk a file that told contents have, with these bytes, and that isn't too long.
 pub record IsThere (words : List (List ℕ)) (told : Bool) (contents : Contents) (source : List ℕ) : Type 0 where

@@ -1,7 +1,7 @@
 //! What a command line says: a status, and the bytes that are written with it.
-ghost use Rattle.std.specs.Prelude.{◌≡◌, ◌≢◌, ℕ, List, ◌≤◌, IfOk, OnOk, length, map, string_bytes};
-ghost use Rattle.ease_base.specs.Count.{HasRisen};
-ghost use Rattle.ease_cli.specs.Answer.{Says, SourceSays, ProgramSays, IsThere, SourceSettles, ProgramSettles, FetchFailed, IsTooLong};
+ghost use Rattle.std.specs.Prelude.{◌≡◌, ◌≢◌, ◌⊎◌, ℕ, List, ◌≤◌, IfOk, OnOk, length, map, string_bytes};
+ghost use Rattle.ease_base.specs.Count.{HasRisen, raised};
+ghost use Rattle.ease_cli.specs.Answer.{Says, files_of, SourceSays, ProgramSays, IsThere, SourceSettles, ProgramSettles};
 ghost use Rattle.ease_cli.specs.Lines.{check_line};
 ghost use Rattle.task_ast.specs.Counters.{IsCounterProgram};
 
@@ -31,18 +31,14 @@ pub fn command_answer<C: Cabinet>(
     words: &[String],
     files: &mut C,
 ) -> Result<Answer, NoMemory>
-    ensures says { IfOk result (λ a. Says (map string_bytes words.now) (C.told files.old) (C.contents files.old) a.status a.text) }
-    ensures read_fault { IfOk result (λ a. a.status ≡ Status.ReadFault
-        → FetchFailed (map string_bytes words.now) (C.told files.old) (C.contents files.old) (C.faults files.old) (C.faults files.new)) }
-    ensures too_long { IfOk result (λ a. a.status ≡ Status.TooLong
-        → HasRisen (C.long_contents files.old) (C.long_contents files.new)) }
-    ensures longer { IfOk result (λ a. a.status ≡ Status.TooLong
-        → IsTooLong (map string_bytes words.now) (C.told files.old) (C.contents files.old)) }
+    ensures says { IfOk result (λ a. Says (map string_bytes words.now)
+        (files_of (C.told files.old) (C.contents files.old) (C.faults files.old) (C.faults files.new) (C.long_contents files.old) (C.long_contents files.new)) a.status a.text) }
     ensures settled { (source : List ℕ) → IsThere (map string_bytes words.now) (C.told files.old) (C.contents files.old) source
         → (HasRisen (C.faults files.old) (C.faults files.new) → ⊥) → IfOk result (λ a. SourceSettles source a.status) }
     ensures told { C.told files.new ≡ C.told files.old }
     ensures contents { (name : List ℕ) → C.contents files.new name ≡ C.contents files.old name }
     ensures faults { C.faults files.old ≤ C.faults files.new }
+    ensures long_contents { (C.long_contents files.new ≡ C.long_contents files.old) ⊎ (C.long_contents files.new ≡ raised (C.long_contents files.old)) }
 {
     let Some(WalkWords { program, tasks }) = walk_words(words) else {
         return line(alloc, Status::Usage, USAGE);

@@ -1,7 +1,7 @@
 //! The one public call: words, files and output of a command.
 ghost use Rattle.std.specs.Prelude.{◌≡◌, ◌⊎◌, ℕ, List, ◌≤◌, map, string_bytes};
-ghost use Rattle.ease_base.specs.Count.{HasRisen};
-ghost use Rattle.ease_cli.specs.Answer.{Says, Writes, IsThere, Settles, FetchFailed, IsTooLong};
+ghost use Rattle.ease_base.specs.Count.{HasRisen, raised};
+ghost use Rattle.ease_cli.specs.Answer.{Says, files_of, Writes, IsThere, Settles};
 ghost use Rattle.ease_cli.specs.Form.{IsNoCommand};
 
 use crate::answer::{Answer, command_answer};
@@ -18,17 +18,15 @@ pub fn ease<C: Cabinet, K: Sink>(
     files: &mut C,
     out: &mut K,
 ) -> Status
-    // What is written is what the words and the files say, and at each status nothing else.
-    ensures written { Writes (Says (map string_bytes words.now) (C.told files.old) (C.contents files.old)) result (K.taken out.old) (K.taken out.new) }
+    // What is written is what the words and the files say, with the cause of each refusal, and at each status
+    // nothing else.
+    ensures written { Writes (Says (map string_bytes words.now)
+        (files_of (C.told files.old) (C.contents files.old) (C.faults files.old) (C.faults files.new) (C.long_contents files.old) (C.long_contents files.new)))
+        result (K.taken out.old) (K.taken out.new) }
     // No command is answered by Usage, where its line can be written.
     ensures usage { IsNoCommand (map string_bytes words.now) → (result ≡ Status.Usage) ⊎ (result ≡ Status.WriteFault) ⊎ (result ≡ Status.NoMemory) }
 
-    ensures read_fault { result ≡ Status.ReadFault
-        → FetchFailed (map string_bytes words.now) (C.told files.old) (C.contents files.old) (C.faults files.old) (C.faults files.new) }
     ensures write_fault { result ≡ Status.WriteFault → HasRisen (K.faults out.old) (K.faults out.new) }
-    ensures too_long { result ≡ Status.TooLong
-        → HasRisen (C.long_contents files.old) (C.long_contents files.new)
-        × IsTooLong (map string_bytes words.now) (C.told files.old) (C.contents files.old) }
 
     // Where the file is there and nothing fails, the status is Ok exactly where the source is accepted, else
     // SourceRefused.
@@ -39,6 +37,7 @@ pub fn ease<C: Cabinet, K: Sink>(
     ensures contents { (name : List ℕ) → C.contents files.new name ≡ C.contents files.old name }
     ensures told { C.told files.new ≡ C.told files.old }
     ensures counts { (C.faults files.old ≤ C.faults files.new) × (K.faults out.old ≤ K.faults out.new) }
+    ensures long_contents { (C.long_contents files.new ≡ C.long_contents files.old) ⊎ (C.long_contents files.new ≡ raised (C.long_contents files.old)) }
 {
     let Answer { status, text } = match command_answer(alloc, words, files) {
         Ok(answer) => answer,

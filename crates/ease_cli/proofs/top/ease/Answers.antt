@@ -6,7 +6,7 @@ use Rattle.ease_cli.proofs.top.ease.Goals as goal
 pub returns-in-Ok-send_all-clause-written : goal.returns-in-Ok-send_all-clause-written
 returns-in-Ok-send_all-clause-written g c =
     let before = g.K.Sink.taken c.args.out.now in
-    writes-whole (map string_bytes c.args.words.now) (g.C.Cabinet.told c.args.files.now) (g.C.Cabinet.contents c.args.files.now)
+    writes-whole (map string_bytes c.args.words.now) _
     c.in-Ok.answer.status c.in-Ok.answer.text before _ c.in-Ok.ensures.says
     (c.in-Ok-send_all.ensures.whole ∙ ap (extended before) c.as_slice.ensures)
 
