@@ -9,13 +9,15 @@ use Rattle.task_check.specs.Faults.{Accepted}
 use Rattle.task_text.specs.Reads.{Reads, Refuses}
 use Rattle.ease_cli.specs.declared.status.Status.{Status}
 use Rattle.ease_cli.specs.declared.status.Status.TheVariants as status
-use Rattle.ease_cli.specs.Answer.{ProgramSays, SourceSays, Says, Files, NoneWasLong, Writes, IsAccepted, ProgramSettles, SourceSettles, Settles, IsSource, IsWalkText, IsSourceLine, unread, unaccepted, OfSource}
+use Rattle.ease_cli.specs.Answer.{ProgramSays, SourceSays, Says, Files, NoneWasLong, run_status, IsRun, Writes, IsAccepted, ProgramSettles, SourceSettles, Settles, IsSource, IsWalkText, IsSourceLine, unread, unaccepted, OfSource}
+use Rattle.walk_run.specs.declared.walked.WalkEnd.{WalkEnd}
+use Rattle.walk_run.specs.declared.walked.WalkEnd.TheVariants as ends
 use Rattle.ease_cli.specs.Lines.{text_line}
 
 -- what is said of the tree that reads a source is said of the source
 pub source-from_program : (source : List ℕ) (program : Program) (tasks : ℕ) (s : Status) (text : List ℕ) → Reads source program → ProgramSays program tasks s text → SourceSays source tasks s text
-source-from_program source program tasks status.Ok text reads said =
-    record { program = program; reads = reads; accepted = said.0; written = said.1 }
+source-from_program source program tasks status.Ok text reads said = record { program = program; reads = reads; run = said }
+source-from_program source program tasks status.Trapped text reads said = record { program = program; reads = reads; run = said }
 source-from_program source program tasks status.SourceRefused text reads said = unaccepted program said.0 reads said.1 said.2
 source-from_program source program tasks status.Usage text reads said = said
 source-from_program source program tasks status.ReadFault text reads said = said
@@ -31,6 +33,7 @@ source-from_refusal source tasks fault s text refuses is line =
 -- what is said of the source that the words name is what the command line says
 pub says-from_source : (words : List (List ℕ)) (f : Files) (tasks : ℕ) (source : List ℕ) (s : Status) (text : List ℕ) → IsSource words f tasks source → NoneWasLong f → SourceSays source tasks s text → Says words f s text
 says-from_source words f tasks source status.Ok text is none said = (none, record { tasks = tasks; source = source; is = is; said = said })
+says-from_source words f tasks source status.Trapped text is none said = (none, record { tasks = tasks; source = source; is = is; said = said })
 says-from_source words f tasks source status.SourceRefused text is none said = (none, record { tasks = tasks; source = source; is = is; said = said })
 says-from_source words f tasks source status.Usage text is none said = absurd said
 says-from_source words f tasks source status.ReadFault text is none said = absurd said
@@ -50,16 +53,26 @@ refusal-says status_of text_of source tasks fault (Err d) (Err e) refuses is mad
 pub writes-whole : (words : List (List ℕ)) (f : Files) (s : Status) (text : List ℕ) (before after : Option (List ℕ)) → Says words f s text → after ≡ extended before text → Writes (Says words f) s before after
 writes-whole words f status.Ok text before after said is = (text, said, is)
 writes-whole words f status.SourceRefused text before after said is = (text, said, is)
+writes-whole words f status.Trapped text before after said is = (text, said, is)
 writes-whole words f status.Usage text before after said is = (text, said, is)
 writes-whole words f status.ReadFault text before after said is = (text, said, is)
 writes-whole words f status.TooLong text before after said is = (text, said, is)
 writes-whole words f status.WriteFault text before after said is = absurd said
 writes-whole words f status.NoMemory text before after said is = absurd said
 
--- a status whose one line was made is what the command line says
-pub line-says : {A E : Type 0} (status_of : A → Status) (text_of : A → List ℕ) (words : List (List ℕ)) (f : Files) (s : Status) (text : List ℕ) (r : Result A E) → Says words f s text → IfOk r (λ a. (status_of a ≡ s) × (text_of a ≡ text)) → IfOk r (λ a. Says words f (status_of a) (text_of a))
-line-says status_of text_of words f s text r said = IfOk-weaker r (λ a. (status_of a ≡ s) × (text_of a ≡ text)) (λ a. Says words f (status_of a) (text_of a))
-    (λ a made. subst (λ (x : Status). Says words f x (text_of a)) (sym made.0) (subst (Says words f s) (sym made.1) said))
+-- a run's answer is what is said of its tree
+pub run-says : (program : Program) (tasks : ℕ) (end : WalkEnd) (text : List ℕ) → IsRun program tasks (run_status end) text → ProgramSays program tasks (run_status end) text
+run-says program tasks (ends.Trapped code) text run = run
+run-says program tasks ends.Stopped text run = run
+run-says program tasks ends.Limit text run = run
+run-says program tasks ends.NoReading text run = run
+
+-- and its status is right for the tree
+pub run-settles : (program : Program) (end : WalkEnd) → Accepted program → ProgramSettles program (run_status end)
+run-settles program (ends.Trapped code) accepted = accepted
+run-settles program ends.Stopped accepted = accepted
+run-settles program ends.Limit accepted = accepted
+run-settles program ends.NoReading accepted = accepted
 
 -- where the reader answered one program, the text is no other
 pub same-program : (a p : Program) → ◌≡◌ {A = Result Program TextError} (Ok a) (Ok p) → p ≡ a
@@ -72,6 +85,7 @@ refused-answers-none e p same = cc
 -- the status of the one tree that reads a source is that of the source
 pub source-settles : (source : List ℕ) (program : Program) (s : Status) → Reads source program → ((p : Program) → Reads source p → p ≡ program) → ProgramSettles program s → SourceSettles source s
 source-settles source program status.Ok reads only settled = record { program = program; reads = reads; accepted = settled }
+source-settles source program status.Trapped reads only settled = record { program = program; reads = reads; accepted = settled }
 source-settles source program status.SourceRefused reads only settled = λ a. settled (subst Accepted (only a.program a.reads) a.accepted)
 source-settles source program status.Usage reads only settled = settled
 source-settles source program status.ReadFault reads only settled = settled
@@ -87,6 +101,7 @@ refusal-settles status_of Q source r none = IfOk-weaker r (λ a. (status_of a �
 -- a source's status is that of the command
 pub command-settles : (source : List ℕ) (s : Status) → SourceSettles source s → Settles source s
 command-settles source status.Ok settled = settled
+command-settles source status.Trapped settled = settled
 command-settles source status.SourceRefused settled = settled
 command-settles source status.Usage settled = settled
 command-settles source status.ReadFault settled = settled

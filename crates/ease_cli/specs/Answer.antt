@@ -9,20 +9,32 @@ use Rattle.task_text.specs.Reads.{Reads, Refuses}
 use Rattle.task_check.specs.declared.error.CheckError.{CheckError}
 use Rattle.task_check.specs.CheckedForm.{core_of}
 use Rattle.task_check.specs.Faults.{Accepted, first_fault}
+use Rattle.walk_run.specs.declared.walked.WalkEnd.{WalkEnd}
+use Rattle.walk_run.specs.declared.walked.WalkEnd.TheVariants as end
 use Rattle.walk_run.specs.Walk.{walk_of}
 use Rattle.walk_run.specs.WalkText.{text_of}
 use Rattle.ease_cli.specs.declared.status.Status.{Status}
-use Rattle.ease_cli.specs.declared.status.Status.TheVariants.{Ok, Usage, SourceRefused, ReadFault, WriteFault, TooLong, NoMemory}
+use Rattle.ease_cli.specs.declared.status.Status.TheVariants.{Ok, Usage, SourceRefused, ReadFault, WriteFault, TooLong, NoMemory, Trapped}
 use Rattle.ease_cli.specs.Form.{IsWalk, IsNoCommand}
 use Rattle.ease_cli.specs.Lines.{usage, read_fault, too_long, text_line, check_line}
 
--- The text is that of the unbroken run, of at most so many tasks, of the checked form of the tree that
--- reads the source.
-pub record IsWalkText (source : List ℕ) (tasks : ℕ) (text : List ℕ) : Type 0 where
+-- the status of a run, by its end
+abbrev pub run_status : WalkEnd → Status
+run_status (end.Trapped code) = Trapped
+run_status _ = Ok
+
+-- The text is that of the unbroken run, of at most so many tasks, of the checked form of an accepted program,
+-- and the status is that of the run.
+pub record IsRun (program : Program) (tasks : ℕ) (status : Status) (text : List ℕ) : Type 0 where
+  pub accepted : Accepted program
+  pub ended : run_status (walk_of (core_of program) [] tasks).end ≡ status
+  pub written : text ≡ text_of (core_of program) (walk_of (core_of program) [] tasks)
+
+-- the same of the tree that reads the source
+pub record IsWalkText (source : List ℕ) (tasks : ℕ) (status : Status) (text : List ℕ) : Type 0 where
   pub program : Program
   pub reads : Reads source program
-  pub accepted : Accepted program
-  pub written : text ≡ text_of (core_of program) (walk_of (core_of program) [] tasks)
+  pub run : IsRun program tasks status text
 
 -- The text is the line of the source's fault: no tree reads it, or its tree isn't accepted.
 pub data IsSourceLine (source text : List ℕ) : Type 0 where
@@ -31,13 +43,15 @@ pub data IsSourceLine (source text : List ℕ) : Type 0 where
 
 -- what is said of a tree that was read
 abbrev pub ProgramSays : Program → ℕ → Status → List ℕ → Type 0
-ProgramSays program tasks Ok text = Accepted program × (text ≡ text_of (core_of program) (walk_of (core_of program) [] tasks))
+ProgramSays program tasks Ok text = IsRun program tasks Ok text
+ProgramSays program tasks Trapped text = IsRun program tasks Trapped text
 ProgramSays program tasks SourceRefused text = (fault : CheckError) × (first_fault program ≡ Some fault) × (text ≡ check_line fault)
 ProgramSays program tasks _ text = ⊥
 
 -- what is said of a source
 abbrev pub SourceSays : List ℕ → ℕ → Status → List ℕ → Type 0
-SourceSays source tasks Ok text = IsWalkText source tasks text
+SourceSays source tasks Ok text = IsWalkText source tasks Ok text
+SourceSays source tasks Trapped text = IsWalkText source tasks Trapped text
 SourceSays source tasks SourceRefused text = IsSourceLine source text
 SourceSays source tasks _ text = ⊥
 
@@ -93,7 +107,8 @@ NoneWasLong f = f.long_after ≡ f.long
 -- What a command line says, with the cause of each refusal; only a file that is too long raises the count of
 -- long contents, and then by one.
 abbrev pub Says : List (List ℕ) → Files → Status → List ℕ → Type 0
-Says words f Ok text = NoneWasLong f × OfSource words f (λ tasks source. IsWalkText source tasks text)
+Says words f Ok text = NoneWasLong f × OfSource words f (λ tasks source. IsWalkText source tasks Ok text)
+Says words f Trapped text = NoneWasLong f × OfSource words f (λ tasks source. IsWalkText source tasks Trapped text)
 Says words f SourceRefused text = NoneWasLong f × OfSource words f (λ tasks source. IsSourceLine source text)
 Says words f Usage text = NoneWasLong f × IsNoCommand words × (text ≡ usage)
 Says words f ReadFault text = NoneWasLong f × IsCommand words × FetchFailed words f × (text ≡ read_fault)
@@ -123,15 +138,17 @@ pub record IsAccepted (source : List ℕ) : Type 0 where
   pub reads : Reads source program
   pub accepted : Accepted program
 
--- the status of a tree that was read: Ok exactly where it is accepted
+-- the status of a tree that was read: Ok or Trapped exactly where it is accepted
 abbrev pub ProgramSettles : Program → Status → Type 0
 ProgramSettles program Ok = Accepted program
+ProgramSettles program Trapped = Accepted program
 ProgramSettles program SourceRefused = Accepted program → ⊥
 ProgramSettles program _ = ⊥
 
--- the status of a source: Ok exactly where a tree reads it that is accepted, else SourceRefused
+-- the status of a source: Ok or Trapped exactly where a tree reads it that is accepted, else SourceRefused
 abbrev pub SourceSettles : List ℕ → Status → Type 0
 SourceSettles source Ok = IsAccepted source
+SourceSettles source Trapped = IsAccepted source
 SourceSettles source SourceRefused = IsAccepted source → ⊥
 SourceSettles source _ = ⊥
 

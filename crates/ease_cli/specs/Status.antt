@@ -1,7 +1,7 @@
 -- The exit status of each way to end.
 use Rattle.std.specs.Prelude.{ℕ}
 use Rattle.ease_cli.specs.declared.status.Status.{Status}
-use Rattle.ease_cli.specs.declared.status.Status.TheVariants.{Ok, Usage, SourceRefused, ReadFault, WriteFault, TooLong, NoMemory}
+use Rattle.ease_cli.specs.declared.status.Status.TheVariants.{Ok, Usage, SourceRefused, ReadFault, WriteFault, TooLong, NoMemory, Trapped}
 
 abbrev pub number_of : Status → ℕ
 number_of Ok = 0
@@ -11,3 +11,4 @@ number_of ReadFault = 5
 number_of WriteFault = 6
 number_of TooLong = 7
 number_of NoMemory = 8
+number_of Trapped = 9

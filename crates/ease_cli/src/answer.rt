@@ -1,7 +1,7 @@
 //! What a command line says: a status, and the bytes that are written with it.
 ghost use Rattle.std.specs.Prelude.{◌≡◌, ◌≢◌, ◌⊎◌, ℕ, List, ◌≤◌, IfOk, OnOk, length, map, string_bytes};
 ghost use Rattle.ease_base.specs.Count.{HasRisen, raised};
-ghost use Rattle.ease_cli.specs.Answer.{Says, files_of, SourceSays, ProgramSays, IsThere, SourceSettles, ProgramSettles};
+ghost use Rattle.ease_cli.specs.Answer.{Says, files_of, run_status, SourceSays, ProgramSays, IsThere, SourceSettles, ProgramSettles};
 ghost use Rattle.ease_cli.specs.Lines.{check_line};
 ghost use Rattle.task_ast.specs.Counters.{IsCounterProgram};
 
@@ -13,7 +13,7 @@ use std::alloc::Global;
 use task_ast::Program;
 use task_check::{CheckError, check};
 use task_text::{TextError, read_program};
-use walk_run::{walk, walk_text};
+use walk_run::{WalkEnd, walk, walk_text};
 
 /// The most bytes of a source.
 const SOURCE_LIMIT: usize = 65_536;
@@ -68,6 +68,7 @@ fn source_answer(alloc: Global, source: &[u8], tasks: u32) -> Result<Answer, NoM
 }
 
 // The answer to `walk` on a tree that was read.
+#[tactic(auto, using(crate::proofs::AnswerLemmas::run-says, crate::proofs::AnswerLemmas::run-settles))]
 fn program_answer(alloc: Global, program: &Program, tasks: u32) -> Result<Answer, NoMemory>
     requires counters { IsCounterProgram program.now }
     requires few { tasks ≤ 1000 }
@@ -81,9 +82,19 @@ fn program_answer(alloc: Global, program: &Program, tasks: u32) -> Result<Answer
     let walked = walk(alloc, &core, &[], tasks)?;
     let text = walk_text(alloc, &core, &walked)?;
     Ok(Answer {
-        status: Status::Ok,
+        status: run_status(walked.end),
         text,
     })
+}
+
+// The status of a run, by its end.
+fn run_status(end: WalkEnd) -> Status
+    ensures { result ≡ run_status end }
+{
+    match end {
+        WalkEnd::Trapped(_) => Status::Trapped,
+        WalkEnd::Stopped | WalkEnd::Limit | WalkEnd::NoReading => Status::Ok,
+    }
 }
 
 // The answer to a tree that isn't accepted.

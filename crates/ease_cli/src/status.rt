@@ -19,6 +19,8 @@ pub enum Status {
     TooLong,
     /// Memory ran out before anything was written.
     NoMemory,
+    /// The run trapped; its output was written whole.
+    Trapped,
 }
 
 impl Status {
@@ -34,6 +36,7 @@ impl Status {
             Status::WriteFault => 6,
             Status::TooLong => 7,
             Status::NoMemory => 8,
+            Status::Trapped => 9,
         }
     }
 }
