@@ -1,6 +1,9 @@
 pub mod CounterRuns
 mod Examples
+pub mod Keeping
 pub mod RunLaws
 pub mod Runs
+pub mod Shapes
+pub mod Steps
 pub mod Stores
 pub mod Values
