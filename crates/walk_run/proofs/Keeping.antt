@@ -1,11 +1,11 @@
 -- Statements, turns and tasks keep the shape of a store.
-use Rattle.std.proofs.Common.{◌≡◌, ◌∙◌, ℕ, zero, suc, ◌+◌, ◌<◌, List, [], ◌∷◌, map, length, Option, Some, None, Result, Ok, Err, refl, sym, ap, arith, set}
+use Rattle.std.proofs.Common.{◌≡◌, ◌∙◌, ℕ, zero, suc, ◌+◌, List, [], ◌∷◌, map, length, Option, Some, None, Result, Ok, Err, refl}
 use Rattle.std.specs.Prelude.{slice_get}
 use Rattle.std.proofs.lemmas.List.{length-set}
 use Rattle.std.proofs.Math.Seq.{map-set_same}
 use Rattle.task_ast.specs.declared.core_form.Array.{Array}
 use Rattle.task_ast.specs.declared.core_form.CoreExpr.{CoreExpr}
-use Rattle.task_ast.specs.declared.core_form.CoreStmt.{CoreStmt, Row_of-CoreStmt, end_of-CoreStmt, more_of-CoreStmt, items-the_row-CoreStmt}
+use Rattle.task_ast.specs.declared.core_form.CoreStmt.{CoreStmt, Row_of-CoreStmt, end_of-CoreStmt, more_of-CoreStmt}
 use Rattle.task_ast.specs.declared.core_form.CoreStmt.TheVariants as stmt
 use Rattle.task_ast.specs.declared.core_form.CoreTask.{CoreTask}
 use Rattle.task_ast.specs.declared.core_form.Core.{Core}
@@ -46,9 +46,11 @@ assigned_keeps array index e store = by_index (value_of index store)
     by_word : (place : ℕ) (r : Result ℕ ℕ) → Keeps store (with_word r (λ word. Ok (written store array place word)))
     by_word place (Ok word) = written_keeps store array place word
     by_word place (Err code) = tt
+
     by_place : (r : Result ℕ ℕ) → Keeps store (with_word r (λ place. with_word (value_of e store) (λ word. Ok (written store array place word))))
     by_place (Ok place) = by_word place (value_of e store)
     by_place (Err code) = tt
+
     by_index : (r : Result ℕ ℕ) → Keeps store (with_word r (λ i. with_word (place_of store array i) (λ place. with_word (value_of e store) (λ word. Ok (written store array place word)))))
     by_index (Ok i) = by_place (place_of store array i)
     by_index (Err code) = tt
@@ -94,6 +96,7 @@ task_keeps arrays t store shape = by_body (body_done t.body store) (body_keeps t
     by_next : (after : Store) → HasShape arrays after → (r : Result ℕ ℕ) → HasEnded arrays (with_word r (λ next. Ok (make_turn after next)))
     by_next after kept (Ok next) = kept
     by_next after kept (Err code) = tt
+
     by_body : (r : Result Store ℕ) → Keeps store r → HasEnded arrays (with_store r (λ after. with_word (next_of t.exit after) (λ next. Ok (make_turn after next))))
     by_body (Ok after) k = by_next after (k ∙ shape) (next_of t.exit after)
     by_body (Err code) k = tt

@@ -1,5 +1,5 @@
 -- Stores have the shape of the arrays that are declared, and keep it.
-use Rattle.std.proofs.Common.{◌≡◌, ◌∙◌, ℕ, zero, suc, ◌+◌, ◌<◌, List, [], ◌∷◌, map, length, take, Option, Some, None, refl, sym, ap, set, get_or, add-one, arith, is_some, true≢false}
+use Rattle.std.proofs.Common.{◌≡◌, ◌∙◌, ℕ, zero, suc, ◌+◌, ◌<◌, List, [], ◌∷◌, map, length, take, Some, refl, sym, ap, set, get_or, add-one, arith, is_some, true≢false}
 use Rattle.std.specs.Prelude.{slice_get}
 use Rattle.std.proofs.lemmas.Option.{slice_get-get_or}
 use Rattle.task_ast.specs.declared.tree.Kind.{Kind}
@@ -54,6 +54,7 @@ shape_fresh (b ∷ arrays) (w ∷ ws) zero a shape is =
   where
     heads : length w ≡ length b.first
     heads = cc
+
     tails : map length ws ≡ map (λ x. length x.first) arrays
     tails = cc
 shape_fresh (b ∷ arrays) (w ∷ ws) (suc n) a shape is =

@@ -88,7 +88,7 @@ pub choose_fails : (e : CoreExit) (store : Store) (c : CoreExpr) (a b got : Core
 choose_fails e store c a b got word r is v none same done =
     done ∙ ap (λ x. next_of x store) same
     ∙ sym (next_at_choose e store c a b is ∙ ap (λ x. with_word x (λ w. chosen w (next_of a store) (next_of b store))) v
-        ∙ ap (λ w. chosen w (next_of a store) (next_of b store)) none)
+    ∙ ap (λ w. chosen w (next_of a store) (next_of b store)) none)
 
 -- a turn of a loop that goes on
 pub turns_go_on : (body : Store → Result Store ℕ) (variable turn turns : ℕ) (store : Store) → turn < turns

@@ -76,4 +76,3 @@ run_if_there (Some t) store = task_run t store
 -- the run of the task with this number, from 1, which begins with volatile arrays as they are declared
 abbrev pub turn_of : Core → ℕ → Store → Result Turn ℕ
 turn_of c number store = run_if_there (slice_get c.tasks (number - 1)) (refreshed c.arrays store)
-

@@ -53,7 +53,12 @@ fn run_statement(statement: &CoreStmt, store: &mut Store) -> Result<(), u32>
                 run_body(no_part.as_slice(), store)
             }
         }
-        CoreStmt::Loop(variable, turns, body) => run_turns(*variable, *turns, body.as_slice(), store),
+        CoreStmt::Loop(variable, turns, body) => run_turns(
+            *variable,
+            *turns,
+            body.as_slice(),
+            store,
+        ),
         _ => Err(NOT_YET),
     }
 }
