@@ -5,9 +5,12 @@ use Rattle.task_ast.specs.declared.tree.Op2.TheVariants.{Add, Sub, Mul, Div, Rem
 use Rattle.std.specs.Prelude.{codes}
 use Rattle.std.specs.Fmt.{digits}
 use Rattle.task_ast.specs.declared.core_form.CoreExpr.TheBlock.{hidden-the_row-CoreExpr-0, shape-the_row-CoreExpr-0}
+use Rattle.task_ast.specs.declared.core_form.CoreStmt.TheBlock.{hidden-the_row-CoreStmt-0, shape-the_row-CoreStmt-0}
+use Rattle.task_ast.specs.declared.core_form.CoreExit.TheBlock.{hidden-the_row-CoreExit-0, shape-the_row-CoreExit-0}
 use Rattle.task_ast.specs.declared.core_form.Core.{Core}
-use Rattle.walk_run.specs.Examples.{wrapping, handing_over}
+use Rattle.walk_run.specs.Examples.{wrapping, handing_over, indexing, turning, choosing}
 use Rattle.walk_run.specs.Value.{one_word, two_words, two_values}
+use Rattle.walk_run.specs.Task.{turns_done}
 use Rattle.walk_run.specs.Walk.{walk_from, walk_of}
 use Rattle.walk_run.specs.WalkText.{line, array_line, state_text, text_of}
 use denote.Hole.Carrier.{hidden}
@@ -25,6 +28,30 @@ tasks_hand_over_until_the_limit : text_after handing_over 3
     ++ line (codes "commit 2") ++ line (codes "n = 17") ++ line (codes "m = 30") ++ line (codes "end limit")
 unfolding hidden-the_row-CoreExpr-0 shape-the_row-CoreExpr-0 hidden digits text_after handing_over text_of walk_of walk_from state_text array_line
 tasks_hand_over_until_the_limit = refl
+
+an_index_that_is_too_great_traps : text_after indexing 5
+    ≡ line (codes "commit 2") ++ line (codes "a = 1 2") ++ line (codes "i = 2") ++ line (codes "end trapped 1")
+unfolding hidden-the_row-CoreExpr-0 shape-the_row-CoreExpr-0 hidden digits text_after indexing text_of walk_of walk_from state_text array_line
+an_index_that_is_too_great_traps = refl
+
+a_limit_comes_before_the_trap : text_after indexing 1
+    ≡ line (codes "commit 2") ++ line (codes "a = 1 2") ++ line (codes "i = 2") ++ line (codes "end limit")
+unfolding hidden-the_row-CoreExpr-0 shape-the_row-CoreExpr-0 hidden digits text_after indexing text_of walk_of walk_from state_text array_line
+a_limit_comes_before_the_trap = refl
+
+a_loop_turns_and_volatile_words_are_fresh_in_each_task : text_after turning 9
+    ≡ line (codes "commit 1") ++ line (codes "n = 5") ++ line (codes "s = 3")
+    ++ line (codes "commit 0") ++ line (codes "n = 10") ++ line (codes "s = 6") ++ line (codes "end stopped")
+unfolding hidden-the_row-CoreExpr-0 shape-the_row-CoreExpr-0 hidden-the_row-CoreStmt-0 shape-the_row-CoreStmt-0 hidden-the_row-CoreExit-0 shape-the_row-CoreExit-0 hidden digits text_after turning text_of walk_of walk_from state_text array_line
+a_loop_turns_and_volatile_words_are_fresh_in_each_task = refl
+
+a_branch_that_is_not_taken_does_not_trap : text_after choosing 2
+    ≡ line (codes "commit 1") ++ line (codes "n = 4") ++ line (codes "end trapped 2")
+unfolding hidden-the_row-CoreExpr-0 shape-the_row-CoreExpr-0 hidden-the_row-CoreStmt-0 shape-the_row-CoreStmt-0 hidden digits text_after choosing text_of walk_of walk_from state_text array_line
+a_branch_that_is_not_taken_does_not_trap = refl
+
+a_loop_without_turns_sets_its_variable_to_0 : turns_done (λ s. Err 1) 0 0 0 ((7 ∷ []) ∷ []) ≡ Ok ((0 ∷ []) ∷ [])
+a_loop_without_turns_sets_its_variable_to_0 = refl
 
 no_task_is_asked_for : text_after handing_over 0 ≡ line (codes "end limit")
 unfolding text_after handing_over text_of walk_of walk_from

@@ -1,5 +1,5 @@
 -- A run that is under way: the states so far, and the run that is left.
-use Rattle.std.proofs.Common.{◌≡◌, ◌∙◌, ℕ, zero, suc, ◌+◌, ◌-◌, ◌<◌, ◌≤◌, List, [], ◌∷◌, ◌++◌, Ok, Err, Result, refl, sym, ap, append_assoc, arith}
+use Rattle.std.proofs.Common.{◌≡◌, ◌∙◌, ℕ, zero, suc, ◌+◌, ◌-◌, ◌<◌, ◌≤◌, List, [], ◌∷◌, ◌++◌, Ok, Err, Result, refl, sym, ap, subst, append_assoc, arith}
 use Rattle.std.proofs.lemmas.List.{append-nil}
 use Rattle.task_ast.specs.declared.core_form.Core.{Core}
 use Rattle.walk_run.specs.declared.walked.WalkEnd.{WalkEnd}
@@ -7,7 +7,9 @@ use Rattle.walk_run.specs.declared.walked.WalkEnd.TheVariants.{Stopped, Limit, T
 use Rattle.walk_run.specs.declared.walked.State.{State}
 use Rattle.walk_run.specs.declared.walked.Walked.{Walked}
 use Rattle.task_ast.specs.declared.core_form.Array.{Array}
-use Rattle.walk_run.specs.Store.{Store, declared_store, kept_words}
+use Rattle.walk_run.specs.Store.{Store, HasShape, declared_store, kept_words}
+use Rattle.walk_run.proofs.Keeping.{HasEnded, turn_keeps}
+use Rattle.walk_run.proofs.Shapes.{shape_declared}
 use Rattle.walk_run.specs.Task.{Turn, make_turn, turn_of}
 use Rattle.walk_run.specs.Walk.{ends, with_state, unless_stopped, goes_on, walk_from, walk_of}
 
@@ -27,6 +29,7 @@ shown c next store = state_with next (kept_words c.arrays store)
 -- after so many of the tasks, the states so far and the run that is left are the whole run
 pub record IsUnderWay (c : Core) (tasks ended number : ℕ) (store : Store) (states : List State) (whole : Walked) : Type 0 where
   pub some : 0 < number
+  pub shape : HasShape c.arrays store
   pub whole_is : after_states states (walk_from c (tasks - ended) number store) ≡ whole
 
 -- at the beginning
@@ -38,6 +41,7 @@ run_begins c arrays readings tasks store states same declared none =
     let all : tasks - 0 ≡ tasks = omega arith in
     record {
       some = omega arith;
+      shape = subst (HasShape c.arrays) (sym (declared ∙ ap declared_store same)) (shape_declared c.arrays);
       whole_is = ap (λ s. after_states s (walk_from c (tasks - 0) 1 store)) none
           ∙ ap (λ n. walk_from c n 1 store) all
           ∙ ap (walk_from c tasks 1) (declared ∙ ap declared_store same);
@@ -73,13 +77,16 @@ unless_at : (next : ℕ) (w : Walked) → 0 < next → unless_stopped next w ≡
 unless_at zero w h = absurd (omega arith)
 unless_at (suc n) w h = refl
 
+shape_after : (c : Core) (number next : ℕ) (store after : Store) → HasShape c.arrays store → turn_of c number store ≡ Ok (make_turn after next) → HasShape c.arrays after
+shape_after c number next store after shape turn = subst (HasEnded c.arrays) turn (turn_keeps c number store shape)
+
 pub run_goes_on : (c : Core) (tasks ended number next : ℕ) (store after : Store) (states : List State) (whole : Walked)
     → IsUnderWay c tasks ended number store states whole → ended < tasks → turn_of c number store ≡ Ok (make_turn after next) → 0 < next
     → (new : List State) → new ≡ states ++ shown c next after ∷ [] → IsUnderWay c tasks (ended + 1) next after new whole
 run_goes_on c tasks ended number next store after states whole h more turn on new pushed =
     let m = tasks - (ended + 1) in
     let step = run_steps c (tasks - ended) m number store _ (omega arith) turn ∙ ap (with_state (shown c next after)) (unless_at next (walk_from c m next after) on) in
-    record { some = on; whole_is = ap (λ s. after_states s (walk_from c m next after)) pushed ∙ goes_from c states (shown c next after) _ _ step ∙ h.whole_is }
+    record { some = on; shape = shape_after c number next store after h.shape turn; whole_is = ap (λ s. after_states s (walk_from c m next after)) pushed ∙ goes_from c states (shown c next after) _ _ step ∙ h.whole_is }
 
 pub run_stops : (c : Core) (tasks ended number next : ℕ) (store after : Store) (states : List State) (whole : Walked)
     → IsUnderWay c tasks ended number store states whole → ended < tasks → turn_of c number store ≡ Ok (make_turn after next) → next ≡ 0

@@ -16,3 +16,9 @@ pub view_written : {X : Type 0} (f : X → List ℕ) (xs : List X) (x d y : X) (
 view_written f xs x d y array place word h is e =
     map-set f xs array y
     ∙ ap (λ w. set (map f xs) array w) (e ∙ ap (λ z. set z place word) (ap f is ∙ sym (get_or-map f xs array d [] h)))
+
+-- an array that is set, where each array is seen by f
+pub view_reset : {X : Type 0} (f : X → List ℕ) (xs : List X) (y : X) (number : ℕ) (first : List ℕ) (store : Store)
+    → map f xs ≡ store → f y ≡ first → map f (set xs number y) ≡ set store number first
+view_reset f xs y number first store seen is =
+    map-set f xs number y ∙ ap (λ w. set (map f xs) number w) is ∙ ap (λ s. set s number first) seen

@@ -1,20 +1,16 @@
--- Small programs, for examples and tests.
-use Rattle.std.specs.Prelude.{ℕ, List, [], ◌∷◌, codes, refl}
-use Rattle.std.proofs.Common.{arith}
-use Rattle.task_ast.specs.CoreCounters.{IsCounterCore}
-use Rattle.task_ast.specs.declared.tree.Kind.TheVariants.{Nv}
-use Rattle.task_ast.specs.declared.tree.Op2.TheVariants.{Add}
+-- Small programs in their checked form, for examples.
+use Rattle.std.specs.Prelude.{ℕ, List, [], ◌∷◌, codes}
+use Rattle.task_ast.specs.declared.tree.Kind.TheVariants.{Nv, Vol}
+use Rattle.task_ast.specs.declared.tree.Op2.TheVariants.{Add, Div, Lt}
 use Rattle.task_ast.specs.declared.core_form.Array.{Array}
 use Rattle.task_ast.specs.declared.core_form.CoreExpr.{CoreExpr}
 use Rattle.task_ast.specs.declared.core_form.CoreExpr.TheVariants.{Number, Cell, Two}
-use Rattle.task_ast.specs.declared.core_form.CoreExpr.TheBlock.{hidden-the_row-CoreExpr-0, shape-the_row-CoreExpr-0}
 use Rattle.task_ast.specs.declared.core_form.CoreStmt.{CoreStmt}
-use Rattle.task_ast.specs.declared.core_form.CoreStmt.TheVariants.{Assign}
+use Rattle.task_ast.specs.declared.core_form.CoreStmt.TheVariants.{Assign, If, Loop}
 use Rattle.task_ast.specs.declared.core_form.CoreExit.{CoreExit}
-use Rattle.task_ast.specs.declared.core_form.CoreExit.TheVariants.{Next, Stop}
+use Rattle.task_ast.specs.declared.core_form.CoreExit.TheVariants.{Next, Stop, Choose}
 use Rattle.task_ast.specs.declared.core_form.CoreTask.{CoreTask}
 use Rattle.task_ast.specs.declared.core_form.Core.{Core}
-use denote.Hole.Carrier.{hidden}
 
 -- a nonvolatile scalar
 abbrev pub scalar : List ℕ → ℕ → Array
@@ -45,34 +41,25 @@ handing_over =
     (task (codes "a") (Assign 1 (Number 0) (Two Add (read 1) (read 0)) ∷ []) (Next 2)
     ∷ task (codes "b") (Assign 0 (Number 0) (Two Add (read 0) (Two Add (read 1) (Number 1))) ∷ []) (Next 1) ∷ [])
 
-pub wrapping_counts : IsCounterCore wrapping
-unfolding hidden-the_row-CoreExpr-0 shape-the_row-CoreExpr-0 hidden wrapping
-wrapping_counts =
-    record {
-      arrays = ((refl, refl), tt);
-      pointers = refl;
-      peripherals = refl;
-      tasks = (record { body = ((omega arith, refl, (refl, (omega arith, refl), tt)), tt); exit = tt; sites = refl }, tt);
-      some = omega arith;
-    }
+-- nv word a[2] = {1, 2}; nv word i; task t { i = 2; NEXT(u); } task u { a[i] = 9; STOP; }
+unfoldable pub indexing : Core
+indexing =
+    program (record { name = codes "a"; kind = Nv; first = 1 ∷ 2 ∷ [] } ∷ scalar (codes "i") 0 ∷ [])
+    (task (codes "t") (Assign 1 (Number 0) (Number 2) ∷ []) (Next 2)
+    ∷ task (codes "u") (Assign 0 (read 1) (Number 9) ∷ []) Stop ∷ [])
 
-pub handing_over_counts : IsCounterCore handing_over
-unfolding hidden-the_row-CoreExpr-0 shape-the_row-CoreExpr-0 hidden handing_over
-handing_over_counts =
-    record {
-      arrays = ((refl, refl), ((refl, refl), tt));
-      pointers = refl;
-      peripherals = refl;
-      tasks = (
-        record { body = ((omega arith, refl, (refl, (omega arith, refl), (omega arith, refl))), tt); exit = (omega arith, omega arith); sites = refl },
-        (
-          record {
-            body = ((omega arith, refl, (refl, (omega arith, refl), (refl, (omega arith, refl), tt))), tt);
-            exit = (omega arith, omega arith);
-            sites = refl;
-          },
-          tt,
-        ),
-      );
-      some = omega arith;
-    }
+-- word v = 5; nv word n; nv word s;
+-- task a { n = n + v; for (v = 0; v < 3; v++) { s = s + v; } if (s < 6) NEXT(a); else STOP; }
+unfoldable pub turning : Core
+turning =
+    program (record { name = codes "v"; kind = Vol; first = 5 ∷ [] } ∷ scalar (codes "n") 0 ∷ scalar (codes "s") 0 ∷ [])
+    (task (codes "a")
+    (Assign 1 (Number 0) (Two Add (read 1) (read 0)) ∷ Loop 0 3 (Assign 2 (Number 0) (Two Add (read 2) (read 0)) ∷ []) ∷ [])
+    (Choose (Two Lt (read 2) (Number 6)) (Next 1) Stop) ∷ [])
+
+-- nv word n; task a { if (n) { n = 7 / 0; } else { n = 4; } NEXT(a); }
+unfoldable pub choosing : Core
+choosing =
+    program (scalar (codes "n") 0 ∷ [])
+    (task (codes "a")
+    (If (read 0) (Assign 0 (Number 0) (Two Div (Number 7) (Number 0)) ∷ []) (Assign 0 (Number 0) (Number 4) ∷ []) ∷ []) (Next 1) ∷ [])

@@ -1,5 +1,5 @@
 -- The store of a run: the words of each array, by its number.
-use Rattle.std.specs.Prelude.{ℕ, ◌+◌, List, [], ◌∷◌, map, length, slice_index, slice_index_or, slice_set, Result, Ok, Err, nat_lt, if◌then◌else◌}
+use Rattle.std.specs.Prelude.{◌≡◌, ℕ, ◌+◌, List, [], ◌∷◌, map, length, slice_index, slice_index_or, slice_set, Result, Ok, Err, nat_lt, if◌then◌else◌}
 use Rattle.task_ast.specs.declared.tree.Kind.{Kind}
 use Rattle.task_ast.specs.declared.tree.Kind.TheVariants.{Nv, Const, Vol}
 use Rattle.task_ast.specs.declared.core_form.Array.{Array}
@@ -27,6 +27,26 @@ word_at store array place = slice_index (words_of store array) place
 -- the store with another word at a place of an array
 abbrev pub written : Store → ℕ → ℕ → ℕ → Store
 written store array place word = slice_set store array (slice_set (words_of store array) place word)
+
+-- each array has as many words as are declared
+abbrev pub HasShape : List Array → Store → Type 0
+HasShape arrays store = map length store ≡ map (λ a. length a.first) arrays
+
+-- the words of an array when a task begins: those of a volatile one are as declared
+abbrev pub fresh_words : Kind → List ℕ → List ℕ → List ℕ
+fresh_words Vol first words = first
+fresh_words Nv first words = words
+fresh_words Const first words = words
+
+-- the store with one array as it is when a task begins
+abbrev pub with_fresh : Array → ℕ → Store → Store
+with_fresh a number store = slice_set store number (fresh_words a.kind a.first (words_of store number))
+
+-- the store when a task begins: volatile arrays are as they are declared
+abbrev pub refreshed : List Array → Store → Store
+refreshed [] store = store
+refreshed (a ∷ arrays) [] = []
+refreshed (a ∷ arrays) (words ∷ store) = fresh_words a.kind a.first words ∷ refreshed arrays store
 
 -- an array is kept from task to task, and isn't constant: these are the arrays that a state shows
 abbrev pub first_if_kept : {A : Type 0} → Kind → A → List A → List A

@@ -1,7 +1,8 @@
 //! What holds of every run, as the contracts of functions that do nothing.
 ghost use Rattle.std.specs.Prelude.{◌≡◌, ◌≢◌, ◌+◌, ◌<◌, ◌≤◌, ◌↔◌, ℕ, length};
-ghost use Rattle.task_ast.specs.CoreCounters.{IsCounterCore};
-ghost use Rattle.walk_run.specs.Laws.{IsFront, next_after};
+ghost use Rattle.task_ast.specs.WellFormed.{IsWellFormed};
+ghost use Rattle.std.specs.List.{AllByRecursion};
+ghost use Rattle.walk_run.specs.Laws.{IsFront, IsTrap, HasSizes, next_after};
 ghost use Rattle.walk_run.specs.Walk.{walk_of};
 
 use crate::walked::WalkEnd;
@@ -27,10 +28,17 @@ pub fn the_states_tell_the_end(c: &Core, readings: &[u32], tasks: u32)
         → length (walk_of c.now readings.now tasks).states < tasks }
 {}
 
-/// A program that counts never traps and takes no reading, so what the language doesn't have yet never shows.
-#[tactic(auto, using(crate::proofs::CounterRuns::counters_never_trap))]
-pub fn a_counting_run_stops_or_meets_its_limit(c: &Core, readings: &[u32], tasks: u32)
-    requires { IsCounterCore c.now }
-    ensures trapped { (code : ℕ) → (walk_of c.now readings.now tasks).end ≢ WalkEnd.Trapped code }
+/// The run of a well-formed program traps by an index or a divisor alone, and takes no reading: what the language
+/// doesn't have yet never shows.
+#[tactic(auto, using(crate::proofs::Traps::ends_rightly))]
+pub fn a_run_traps_by_index_or_divisor(c: &Core, readings: &[u32], tasks: u32)
+    requires { IsWellFormed c.now }
+    ensures trapped { (code : ℕ) → (walk_of c.now readings.now tasks).end ≡ WalkEnd.Trapped code → IsTrap code }
     ensures reading { (walk_of c.now readings.now tasks).end ≢ WalkEnd.NoReading }
+{}
+
+/// Each state has as many words of each array as are declared.
+#[tactic(auto, using(crate::proofs::StateShapes::states_sized))]
+pub fn every_state_has_the_declared_sizes(c: &Core, readings: &[u32], tasks: u32)
+    ensures { AllByRecursion (HasSizes c.now.arrays) (walk_of c.now readings.now tasks).states }
 {}

@@ -12,8 +12,8 @@ mod value;
 mod walked;
 
 pub use laws::{
-    a_counting_run_stops_or_meets_its_limit, a_run_is_a_front_of_longer_runs,
-    the_states_tell_the_end,
+    a_run_is_a_front_of_longer_runs, a_run_traps_by_index_or_divisor,
+    every_state_has_the_declared_sizes, the_states_tell_the_end,
 };
 pub use run::walk;
 pub use text::walk_text;

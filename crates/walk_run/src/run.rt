@@ -1,6 +1,5 @@
 //! The loop over tasks.
 ghost use Rattle.std.specs.Prelude.{◌≡◌, ◌≤◌, IfOk};
-ghost use Rattle.task_ast.specs.CoreCounters.{IsCounterCore};
 ghost use Rattle.walk_run.specs.Walk.{walk_of};
 
 use crate::store::Store;
@@ -13,7 +12,6 @@ use task_ast::Core;
 /// The unbroken run of at most `tasks` tasks from the declared words, task 1 first. No call takes one of the
 /// `readings` yet. The meaning of a program stands in docs/LANGUAGE.md.
 pub fn walk(alloc: Global, c: &Core, readings: &[u32], tasks: u32) -> Result<Walked, NoMemory>
-    requires counters { IsCounterCore c.now }
     requires few { tasks ≤ 1000 }
     ensures { IfOk result (λ w. w ≡ walk_of c.now readings.now tasks) }
 {

@@ -1,6 +1,6 @@
 //! The store of a run: the words of each array, which are written in place.
-ghost use Rattle.std.specs.Prelude.{◌≡◌, ◌<◌, length, IfOk};
-ghost use Rattle.walk_run.specs.Store.{declared_store, words_of, place_of, word_at, written, kept_words};
+ghost use Rattle.std.specs.Prelude.{◌≡◌, ◌<◌, length, slice_set, IfOk};
+ghost use Rattle.walk_run.specs.Store.{HasShape, declared_store, words_of, place_of, word_at, written, with_fresh, refreshed, kept_words};
 
 use ease_base::{List, NoMemory, Words};
 use std::alloc::Global;
@@ -71,6 +71,45 @@ impl Store {
     {
         let words = &mut self.arrays[array as usize];
         words[place as usize] = word;
+    }
+
+    /// Writes the one word of a scalar; does nothing where there is no such array.
+    pub fn set(&mut self, scalar: u32, word: u32)
+        ensures { self.new ≡ written self.old scalar 0 word }
+    {
+        if !self.words(scalar as usize).is_empty() {
+            self.write(scalar, 0, word);
+        }
+    }
+
+    /// Sets each volatile array to its declared words, as at a task's beginning.
+    pub fn refresh(&mut self, arrays: &[Array])
+        requires shape { HasShape arrays.now self.old }
+        ensures { self.new ≡ refreshed arrays.now self.old }
+    {
+        'arrays: for (number, array) in arrays.iter().enumerate() {
+            self.refresh_one(number, array);
+        }
+    }
+
+    // Sets an array to its declared words where it is volatile.
+    fn refresh_one(&mut self, number: usize, array: &Array)
+        requires there { number < length self.old }
+        requires length { length (words_of self.old number) ≡ length array.now.first }
+        ensures { self.new ≡ with_fresh array.now number self.old }
+    {
+        if array.kind == Kind::Vol {
+            self.reset(number, array.first.as_slice());
+        }
+    }
+
+    // Sets the words of an array.
+    fn reset(&mut self, number: usize, first: &[u32])
+        requires there { number < length self.old }
+        requires length { length (words_of self.old number) ≡ length first.now }
+        ensures { self.new ≡ slice_set self.old number first.now }
+    {
+        self.arrays[number].copy_from_slice(first);
     }
 
     /// A copy of the words of the arrays that a state shows.
