@@ -68,7 +68,7 @@ fn source_answer(alloc: Global, source: &[u8], tasks: u32) -> Result<Answer, NoM
 }
 
 // The answer to `walk` on a tree that was read.
-#[tactic(auto, using(crate::proofs::AnswerLemmas::run-says, crate::proofs::AnswerLemmas::run-settles))]
+#[tactic(auto, using(crate::proofs::AnswerLemmas::run_says, crate::proofs::AnswerLemmas::run_settles))]
 fn program_answer(alloc: Global, program: &Program, tasks: u32) -> Result<Answer, NoMemory>
     requires counters { IsCounterProgram program.now }
     requires few { tasks ≤ 1000 }
