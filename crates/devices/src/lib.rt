@@ -1,13 +1,16 @@
-// A library with one function.
+//! What lies outside a batteryless computer: the readings of its peripherals, the clock, and the power.
 #![tactic(auto)]
 
-ghost use Rattle.std.specs.Prelude.{◌≡◌};
-ghost use Rattle.devices.specs.Echo.{echo_of};
+mod clock;
+mod laws;
+mod outside;
+mod readings;
+#[cfg(test)]
+mod tests;
+mod world;
 
-// The `ensures` clause is the contract: what `echo` returns is `echo_of` of its argument, a definition
-// in `specs/Echo.antt`, which a caller's clause can cite too.
-pub fn echo(x: usize) -> usize
-    ensures { result ≡ echo_of x }
-{
-    x
-}
+pub use clock::Clock;
+pub use laws::kept_counts_tell_every_reading;
+pub use outside::Outside;
+pub use readings::Readings;
+pub use world::{Feed, PowerRow, World};

@@ -1,13 +1,13 @@
 -- The words of two lists, seen as one store: at an address, after a write, after a failure, at the start.
-use Rattle.std.proofs.Common.{◌≡◌, ◌∙◌, ◌≢◌, ℕ, zero, suc, ◌+◌, ◌-◌, ◌*◌, ◌%◌, ◌^◌, ◌<◌, ◌≤◌, ◌⊎◌, inl, inr, List, [], ◌∷◌, ◌++◌, length, refl, sym, ap, get_or, set, take, replicate, arith, true, false}
+use Rattle.std.proofs.Common.{◌≡◌, ◌∙◌, ℕ, zero, suc, ◌+◌, ◌-◌, ◌%◌, ◌^◌, ◌<◌, ◌≤◌, ◌⊎◌, inl, inr, List, [], ◌++◌, length, refl, sym, ap, get_or, set, take, replicate, arith, true, false}
 use Rattle.std.proofs.Math.Path.{fun_ext}
 use Rattle.std.proofs.Math.Seq.{get_or-append_right}
 use Rattle.std.proofs.lemmas.Bool.Decides.{nat_tests}
-use Rattle.std.proofs.lemmas.Bool.{cases_lt, cases_eq}
+use Rattle.std.proofs.lemmas.Bool.{cases_lt}
 use Rattle.std.proofs.lemmas.Grind.{get_or_default_zero}
-use Rattle.std.proofs.lemmas.List.{take_all, get_or-set_same, get_or-set_other, get_or_append_left, get_or_past, length-set}
+use Rattle.std.proofs.lemmas.List.{take_all, get_or-set_same, get_or-set_other, get_or_append_left, get_or_past}
 use Rattle.fram_ram.specs.Addresses.{fram_has_word, ram_has_word, gap_has_no_word, end_has_no_word}
-use Rattle.fram_ram.specs.Memories.{Contents, is_fram, is_ram, has_word, words, put, failed}
+use Rattle.fram_ram.specs.Memories.{Contents, has_word, words, put, failed}
 
 -- the word at an address of FRAM
 pub words_fram : (m : Contents) (at : ℕ) → at < 65536 → words m at ≡ get_or m.fram at 0

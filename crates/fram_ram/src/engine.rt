@@ -98,6 +98,7 @@ impl Engine {
 
     /// Moves the next word, and is idle after the last. `Bus` exactly where no memory has one of the word's two
     /// addresses: then nothing is written, and the engine is idle. Addresses don't wrap behind 4294967295.
+    #[tactic(auto, using(crate::proofs::EngineLemmas::next_within))]
     pub fn move_one(&mut self, memories: &mut Memories) -> Result<(), Bus>
         requires { 0 < self.old.left }
         ensures found { is_ok result ≡ (has_word (next_source self.old) && has_word (next_destination self.old)) }

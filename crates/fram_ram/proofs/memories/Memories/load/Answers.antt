@@ -1,5 +1,5 @@
 -- The word at an address of FRAM, and at one of RAM.
-use Rattle.std.proofs.Common.{◌≡◌, ◌∙◌, ◌<◌, length, get_or, sym, ap, arith}
+use Rattle.std.proofs.Common.{◌∙◌, ◌<◌, length, sym, ap, arith}
 use Rattle.fram_ram.specs.Memories.{words}
 use Rattle.fram_ram.proofs.StoreLemmas.{words_fram, words_ram, read_at, ram_offset, ram_place, fram_found, ram_found, none_found}
 use Rattle.fram_ram.proofs.memories.Memories.load.Goals as goal
