@@ -1,5 +1,5 @@
 -- The definitions on small cases, computed; the values on the right were worked out by hand.
-use Rattle.std.proofs.Common.{◌≡◌, ℕ, zero, suc, ◌<◌, length, List, [], ◌∷◌, All, refl, lit<, lit≤, arith}
+use Rattle.std.proofs.Common.{◌≡◌, zero, suc, [], ◌∷◌, All, refl, lit<, lit≤, arith}
 use Rattle.std.specs.List.{IsDistinct}
 use Rattle.devices.specs.declared.world.Feed.{Feed}
 use Rattle.devices.specs.declared.world.PowerRow.{PowerRow}
@@ -7,7 +7,7 @@ use Rattle.devices.specs.declared.world.World.{World}
 use Rattle.devices.specs.Clock.{clock_at}
 use Rattle.devices.specs.Reading.{reading, reading_in, values_in}
 use Rattle.devices.specs.Readings.{one_more}
-use Rattle.devices.specs.World.{IsRow, IsFeed, IsWithinLimits, AreDistinct, AreWords, steps_of, ticks_of}
+use Rattle.devices.specs.World.{IsRow, IsFeed, IsWithinLimits, AreWords, steps_of, ticks_of}
 
 -- the readings of a list in order, and the last again and again
 first_reading : reading (20 ∷ 21 ∷ []) 1 ≡ 20

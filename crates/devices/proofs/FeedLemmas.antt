@@ -1,7 +1,7 @@
 -- The list of a peripheral among the feeds, one feed after another.
-use Rattle.std.proofs.Common.{◌≡◌, ◌∙◌, ℕ, zero, suc, ◌+◌, ◌<◌, ◌≤◌, Bool, true, false, cond, List, [], ◌∷◌, ◌++◌, length, map, refl, sym, ap, get_or, take, eqb, arith, nat_eq}
+use Rattle.std.proofs.Common.{◌≡◌, ◌∙◌, ℕ, suc, ◌+◌, ◌<◌, ◌≤◌, false, cond, List, [], ◌∷◌, ◌++◌, length, map, refl, sym, ap, get_or, take, eqb, arith, nat_eq}
 use Rattle.std.proofs.lemmas.Bool.Decides.{nat_tests}
-use Rattle.std.proofs.lemmas.List.{take_more, take_all, length-take, get_or-map, length-map, length-take-le, get_or-take, take-map}
+use Rattle.std.proofs.lemmas.List.{take_more, take_all, get_or-map, length-map, length-take-le, get_or-take, take-map}
 use Rattle.std.proofs.lemmas.Map.Keys.{apart_from_distinct}
 use Rattle.devices.specs.declared.world.Feed.{Feed}
 use Rattle.devices.specs.Reading.{values_in}

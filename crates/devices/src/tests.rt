@@ -1,10 +1,15 @@
 //! Readings past their end, peripherals without readings, and a clock that stops at its last tick.
+ghost use Rattle.std.specs.Prelude.{IfOk};
+ghost use Rattle.devices.specs.World.{AreDistinct};
+
 use crate::{Clock, Feed, Outside, Readings};
 use ease_base::{List, NoMemory, Words};
 use std::alloc::Global;
 use std::test::Fail;
 
-fn feeds(alloc: Global) -> Result<List<Feed>, NoMemory> {
+fn feeds(alloc: Global) -> Result<List<Feed>, NoMemory>
+    ensures { IfOk result AreDistinct }
+{
     let mut feeds = List::new(alloc);
     feeds.push(Feed {
         number: 255,

@@ -1,9 +1,9 @@
 -- The series of the peripheral is replaced by one that goes on.
-use Rattle.std.proofs.Common.{◌≡◌, ◌∙◌, ◌+◌, ◌<◌, length, min, sym, ap, arith}
+use Rattle.std.proofs.Common.{◌∙◌, ◌+◌, ◌<◌, length, ap, arith}
 use Rattle.devices.specs.Reading.{reading}
 use Rattle.devices.specs.ReadingLaws.{reading_kept}
-use Rattle.devices.specs.Readings.{values_of, issued_of, one_more, issued_after}
-use Rattle.devices.proofs.SeriesLemmas.{values_there, issued_there, values_stay, issued_raised, reads}
+use Rattle.devices.specs.Readings.{values_of, issued_of, issued_after}
+use Rattle.devices.proofs.SeriesLemmas.{values_there, values_stay, issued_raised, reads}
 use Rattle.devices.proofs.readings.Readings.issue.Goals as goal
 
 pub returns-clause-reading : goal.returns-clause-reading

@@ -1,5 +1,5 @@
 -- One feed more, whose number is below 256.
-use Rattle.std.proofs.Common.{◌≡◌, ◌∙◌, ◌<◌, length, sym, ap, subst, arith}
+use Rattle.std.proofs.Common.{◌∙◌, ◌<◌, length, sym, ap, subst, arith}
 use Rattle.devices.specs.World.{AreDistinct}
 use Rattle.devices.proofs.MakeLemmas.{values_step, issued_step}
 use Rattle.devices.proofs.SeriesLemmas.{values_silent, issued_silent}
