@@ -1,7 +1,7 @@
 -- The list of a peripheral among the feeds, one feed after another.
-use Rattle.std.proofs.Common.{◌≡◌, ◌∙◌, ℕ, suc, ◌+◌, ◌<◌, ◌≤◌, false, cond, List, [], ◌∷◌, ◌++◌, length, map, refl, sym, ap, get_or, take, eqb, arith, nat_eq}
+use Rattle.std.proofs.Common.{◌≡◌, ◌∙◌, ℕ, suc, ◌+◌, ◌<◌, false, cond, List, [], ◌∷◌, ◌++◌, length, map, refl, sym, ap, get_or, take, eqb, arith, nat_eq}
 use Rattle.std.proofs.lemmas.Bool.Decides.{nat_tests}
-use Rattle.std.proofs.lemmas.List.{take_more, take_all, get_or-map, length-map, length-take-le, get_or-take, take-map}
+use Rattle.std.proofs.lemmas.List.{take_more, get_or-map, length-map, length-take-le, get_or-take, take-map}
 use Rattle.std.proofs.lemmas.Map.Keys.{apart_from_distinct}
 use Rattle.devices.specs.declared.world.Feed.{Feed}
 use Rattle.devices.specs.Reading.{values_in}
@@ -44,7 +44,3 @@ pub values_more : (feeds : List Feed) (i p : ℕ) (feed : Feed) → AreDistinct 
 values_more feeds i p feed distinct h is =
     ap (λ xs. values_in xs p) (take_more feeds i feed h ∙ ap (λ x. take i feeds ++ x ∷ []) (sym is))
     ∙ values_append (take i feeds) feed p (λ k lt. others_before feeds i k feed distinct h is (omega (arith, length-take-le i feeds (omega arith))))
-
--- all feeds
-pub values_all : (feeds : List Feed) (i p : ℕ) → length feeds ≤ i → values_in (take i feeds) p ≡ values_in feeds p
-values_all feeds i p h = ap (λ xs. values_in xs p) (take_all i feeds h)

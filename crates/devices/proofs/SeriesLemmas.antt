@@ -46,11 +46,12 @@ pub values_stay : (xs : List Series) (p : ℕ) (y : Series) → p < length xs �
     → values_of (set xs p y) ≡ values_of xs
 values_stay xs p y h e = fun_ext (λ q. values_set xs p q y h ∙ ap (λ v. cond (eqb p q) v (values_of xs q)) e ∙ both_same p q (values_of xs))
 
--- the list and the count of the series at a place
+-- the list of the series at a place
 pub values_there : (xs : List Series) (p : ℕ) (y : Series) → p < length xs → y ≡ get_or xs p y → y.values ≡ values_of xs p
 unfolding values_of
 values_there xs p y h e = ap (λ s. s.values) (e ∙ get_or_default xs p y silent h)
 
+-- the count of the series at a place
 pub issued_there : (xs : List Series) (p : ℕ) (y : Series) → p < length xs → y ≡ get_or xs p y → y.issued ≡ issued_of xs p
 unfolding issued_of
 issued_there xs p y h e = ap (λ s. s.issued) (e ∙ get_or_default xs p y silent h)
@@ -70,11 +71,12 @@ reads xs whole p x word h v is e =
     e ∙ ap (λ vs. reading vs (x.issued + 1)) (values_there xs p x h is ∙ ap (λ r. values_of r p) v)
     ∙ ap (λ n. reading (values_of whole p) (n + 1)) (issued_there xs p x h is ∙ ap (λ r. issued_of r p) v)
 
--- silent series have the lists that no feed gives, and no counts
+-- silent series have the lists that no feed gives
 pub values_silent : (xs : List Series) (p : ℕ) → ((k : ℕ) → get_or xs k silent ≡ silent) → values_of xs p ≡ values_in [] p
 unfolding values_of values_in
 values_silent xs p h = ap (λ s. s.values) (h p)
 
+-- silent series have no counts
 pub issued_silent : (xs : List Series) (p : ℕ) → ((k : ℕ) → get_or xs k silent ≡ silent) → issued_of xs p ≡ 0
 unfolding issued_of
 issued_silent xs p h = ap (λ s. s.issued) (h p)

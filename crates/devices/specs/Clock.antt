@@ -1,4 +1,4 @@
--- What the clock stands at before a step of a run.
+-- What the clock stands at before a step of a world (docs/MACHINE.md, "The clock").
 use Rattle.std.specs.Prelude.{ℕ, ◌+◌, ◌-◌, List, [], ◌∷◌, nat_le, if◌then◌else◌}
 use Rattle.devices.specs.declared.world.PowerRow.{PowerRow}
 use Rattle.devices.specs.declared.world.World.{World}

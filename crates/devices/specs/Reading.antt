@@ -1,4 +1,4 @@
--- Which reading an issue of a peripheral takes.
+-- Which reading an issue of a peripheral takes (docs/MACHINE.md, "Readings").
 use Rattle.std.specs.Prelude.{ℕ, ◌-◌, List, [], ◌∷◌, ◌==◌, length, min, slice_index, if◌then◌else◌}
 use Rattle.devices.specs.declared.world.Feed.{Feed}
 use Rattle.devices.specs.declared.world.World.{World}

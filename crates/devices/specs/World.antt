@@ -1,4 +1,4 @@
--- Which worlds a computer can be run in.
+-- Which worlds are within the limits (docs/MACHINE.md, "Worlds").
 use Rattle.std.specs.Prelude.{ℕ, ◌+◌, ◌<◌, ◌≤◌, ◌^◌, List, All, map, nat_eq, sum_by}
 use Rattle.std.specs.List.{IsDistinct}
 use Rattle.devices.specs.declared.world.Feed.{Feed}

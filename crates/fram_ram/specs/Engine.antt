@@ -1,4 +1,4 @@
--- The engine's state, and what a transfer's next word makes of it.
+-- The engine's state, and what a transfer's next word makes of it (docs/MACHINE.md, "The DMA engine").
 use Rattle.std.specs.Prelude.{◌≡◌, ℕ, ◌<◌, ◌^◌, ◌+◌, ◌-◌, ◌==◌, if◌then◌else◌}
 
 -- a transfer: the two addresses at its start, the words that were moved, and those that are left

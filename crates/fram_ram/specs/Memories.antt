@@ -1,4 +1,4 @@
--- Memories as one function from addresses to words; FRAM and RAM show only in which addresses there are, and in a failure.
+-- Memories as one function from addresses to words; FRAM and RAM differ in a failure alone (docs/MACHINE.md, "Memories").
 use Rattle.std.specs.Prelude.{ℕ, ◌-◌, Bool, ◌&&◌, ◌||◌, List, ◌==◌, nat_lt, nat_le, slice_index, if◌then◌else◌}
 
 -- the words of FRAM from address 0 on, and those of RAM from address 1048576 on
