@@ -1,0 +1,4 @@
+mod Examples
+pub mod FeedLemmas
+pub mod MakeLemmas
+pub mod SeriesLemmas

@@ -1,0 +1,3 @@
+pub mod EngineLemmas
+mod Examples
+pub mod StoreLemmas
