@@ -1,0 +1,6 @@
+use Rattle.std.proofs.Common.{arith, sym}
+use Rattle.word_isa.proofs.DefaultLemmas.{no_row}
+use Rattle.word_isa.proofs.encoding.of_fields.Goals as goal
+
+pub returns-in_default : goal.returns-in_default
+returns-in_default c = sym (no_row c.args.code c.args.a c.args.b c.args.m c.args.t (λ positive. omega arith))

@@ -1,0 +1,5 @@
+pub mod Decoding
+pub mod Fields
+pub mod Instructions
+pub mod Operands
+pub mod RowLaws
