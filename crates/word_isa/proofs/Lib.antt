@@ -1,2 +1,3 @@
 mod DefaultLemmas
 mod Examples
+mod ListingLemmas

@@ -1,5 +1,5 @@
 -- The forms in which an instruction's operands stand in its word.
-use Rattle.std.specs.Prelude.{ℕ, ◌+◌, ◌*◌, ◌/◌, ◌<◌, ◌≤◌}
+use Rattle.std.specs.Prelude.{ℕ, ◌+◌, ◌/◌, ◌<◌, ◌≤◌}
 use Rattle.word_isa.specs.Fields.{word_of}
 
 -- the operands, by the fields that hold them; those of IO and DMA are limited further

@@ -1,6 +1,6 @@
 -- A word's instruction as a function of its fields is the one whose row has the word.
-use Rattle.std.specs.Prelude.{◌≡◌, ◌↔◌, if◌then◌else◌, ℕ, zero, suc, ◌+◌, ◌*◌, ◌/◌, ◌%◌, ◌<◌, ◌≤◌, Bool, true, false, ◌&&◌, ◌==◌, nat_le, nat_lt, List, [], ◌∷◌, Option, Some, None, slice_get, refl}
-use Rattle.std.proofs.Common.{sym, ◌∙◌, ap, subst, arith, rules}
+use Rattle.std.specs.Prelude.{◌≡◌, ◌↔◌, if◌then◌else◌, ℕ, zero, suc, ◌+◌, ◌/◌, ◌<◌, ◌≤◌, Bool, true, false, ◌&&◌, ◌==◌, nat_le, nat_lt, List, [], ◌∷◌, Option, Some, None, slice_get, refl}
+use Rattle.std.proofs.Common.{sym, ◌∙◌, subst, arith, rules}
 use Rattle.std.proofs.lemmas.Bool.{eqb-true, leb-true}
 use Rattle.std.proofs.lemmas.Bool.Decides.{nat_tests}
 use Rattle.word_isa.specs.Fields.{word_of, code_field, a_field, b_field, m_field, t_field}
@@ -95,7 +95,7 @@ row_decoded w (Dma a b m) h =
 row_decoded w (Trap m) h = fields_back 25 0 0 m w zero_fits zero_fits h.0 h.1
 
 -- operands of the same form with these fields
-abbrev refilled : Operands → (a b m t : ℕ) → Operands
+abbrev pub refilled : Operands → (a b m t : ℕ) → Operands
 refilled op_none a b m t = op_none
 refilled (op_a _) a b m t = op_a a
 refilled (op_m _) a b m t = op_m m
@@ -107,19 +107,19 @@ refilled (op_io _ _ _) a b m t = op_io a b m
 refilled (op_dma _ _ _) a b m t = op_dma a b m
 
 -- the instructions have the codes from here on, and these fields
-abbrev AreNumbered : ℕ → List Instr → (a b m t : ℕ) → Type 0
+abbrev pub AreNumbered : ℕ → List Instr → (a b m t : ℕ) → Type 0
 AreNumbered first [] a b m t = Unit {0}
 AreNumbered first (i ∷ rest) a b m t = ((row_of i).code ≡ first) × ((row_of i).operands ≡ refilled (row_of i).operands a b m t) × AreNumbered (suc first) rest a b m t
 
-rows_numbered : (a b m t : ℕ) → AreNumbered 1 (rows_with a b m t) a b m t
+pub rows_numbered : (a b m t : ℕ) → AreNumbered 1 (rows_with a b m t) a b m t
 rows_numbered a b m t = search rules
 
 -- so has each of them
-record IsAtCode (code : ℕ) (i : Instr) (a b m t : ℕ) : Type 0 where
-  is_code : (row_of i).code ≡ code
-  is_filled : (row_of i).operands ≡ refilled (row_of i).operands a b m t
+pub record IsAtCode (code : ℕ) (i : Instr) (a b m t : ℕ) : Type 0 where
+  pub is_code : (row_of i).code ≡ code
+  pub is_filled : (row_of i).operands ≡ refilled (row_of i).operands a b m t
 
-numbered_at : (rows : List Instr) (first n : ℕ) (i : Instr) (a b m t : ℕ) → AreNumbered first rows a b m t → slice_get rows n ≡ Some i → IsAtCode (first + n) i a b m t
+pub numbered_at : (rows : List Instr) (first n : ℕ) (i : Instr) (a b m t : ℕ) → AreNumbered first rows a b m t → slice_get rows n ≡ Some i → IsAtCode (first + n) i a b m t
 numbered_at [] first n i a b m t all at = cc
 numbered_at (j ∷ rows) first zero i a b m t all at =
     let same : j ≡ i = cc in subst (λ k. IsAtCode (first + 0) k a b m t) same (record { is_code = omega (arith, all.0); is_filled = all.1 })
@@ -210,3 +210,12 @@ decoded_never w = (
   λ e i h. none_and_some (decoded w) i e (row_decoded w i h),
   λ nowhere. none_or_row w (decoded w) refl nowhere,
 )
+
+-- the same of a result that is the word's instruction
+pub result_exactly : (w : ℕ) (o : Option Instr) → o ≡ decoded w → (i : Instr) → (o ≡ Some i) ↔ HasRow w i
+result_exactly w o is i =
+    let P : Option Instr → Type 0 = λ k. (k ≡ Some i) ↔ HasRow w i in subst P (sym is) (decoded_exactly w i)
+
+pub result_never : (w : ℕ) (o : Option Instr) → o ≡ decoded w → (o ≡ None) ↔ ((i : Instr) → HasRow w i → ⊥)
+result_never w o is =
+    let P : Option Instr → Type 0 = λ k. (k ≡ None) ↔ ((i : Instr) → HasRow w i → ⊥) in subst P (sym is) (decoded_never w)

@@ -1,10 +1,11 @@
 //! Words and instructions: `decode` and `encode`, which undo each other. Neither takes memory or searches.
 ghost use Rattle.std.specs.Prelude.{◌≡◌, ◌↔◌, ◌<◌, ◌≤◌, ◌+◌, ◌/◌, ◌&&◌, ◌==◌, nat_le, nat_lt, None, Some};
-ghost use Rattle.word_isa.specs.Fields.{word_of, code_field, a_field, b_field, m_field, t_field};
+ghost use Rattle.word_isa.specs.Fields.{word_of};
 ghost use Rattle.word_isa.specs.Instructions.{FitsFields, encoded, HasRow};
 ghost use Rattle.word_isa.specs.Decoding.{instr_at, decoded};
 ghost use Rattle.word_isa.specs.declared.instr.Instr.{Instr};
 
+use crate::fields::{Fields, split};
 use crate::instr::Instr;
 
 /// The instruction of the word; None exactly where no row has it.
@@ -13,18 +14,15 @@ pub fn decode(word: u32) -> Option<Instr>
     ensures missed { (result ≡ None) ↔ ((i : Instr) → ¬ HasRow word i) }
     ensures value { result ≡ decoded word }
 {
-    let code = (word >> 24) as u8;
-    let a = (word >> 20 & 15) as u8;
-    let b = (word >> 16 & 15) as u8;
-    let m = (word & 0xffff) as u16;
-    of_fields(code, a, b, m, word & 0xff_ffff)
+    of_fields(split(word))
 }
 
 // The instruction of these fields; None where no row has the code, or where a field that the row doesn't use isn't 0.
-fn of_fields(code: u8, a: u8, b: u8, m: u16, t: u32) -> Option<Instr>
-    requires { b < 16 }
-    ensures { result ≡ instr_at code a b m t }
+fn of_fields(fields: Fields) -> Option<Instr>
+    requires { fields.b < 16 }
+    ensures { result ≡ instr_at fields.code fields.a fields.b fields.m fields.t }
 {
+    let Fields { code, a, b, m, t } = fields;
     match code {
         1 => (a == 0 && b == 0 && m == 0).then_some(Instr::Halt),
         2 => (b == 0).then_some(Instr::Ldi(a, m)),

@@ -2,7 +2,12 @@
 #![tactic(auto)]
 
 mod encoding;
+mod fields;
 mod instr;
+mod listing;
+#[cfg(test)]
+mod tests;
 
 pub use encoding::{decode, encode};
 pub use instr::Instr;
+pub use listing::list_word;
