@@ -1,3 +1,4 @@
 mod DefaultLemmas
 mod Examples
 mod ListingLemmas
+mod NameLemmas

@@ -5,9 +5,11 @@ mod encoding;
 mod fields;
 mod instr;
 mod listing;
+mod names;
 #[cfg(test)]
 mod tests;
 
 pub use encoding::{decode, encode};
 pub use instr::Instr;
 pub use listing::list_word;
+pub use names::is_symbol_name;

@@ -1,5 +1,5 @@
 //! Words that are listed and decoded.
-use crate::{Instr, decode, encode, list_word};
+use crate::{Instr, decode, encode, is_symbol_name, list_word};
 use ease_base::Text;
 
 #[test]
@@ -30,4 +30,24 @@ fn an_instruction_that_fits_is_read_back(rt: HostRuntime) {
     assert_eq!(rt; decode(0x0210_0007), Some(Instr::Ldi(1, 7)));
     assert_eq!(rt; decode(0x1501_0000), None);
     assert_eq!(rt; decode(0x1631_0500), None);
+}
+
+#[test]
+fn names_of_symbols_are_short_and_free(rt: HostRuntime) {
+    let table = [
+        ("temp", true),
+        ("_", true),
+        ("x9_Z", true),
+        ("a2345678901234567890123456789012", true),
+        ("a23456789012345678901234567890123", false),
+        ("", false),
+        ("9x", false),
+        ("a-b", false),
+        ("DMA", false),
+        ("dma", true),
+        ("\u{e9}", false),
+    ];
+    for (name, want) in table {
+        assert_eq!(rt; is_symbol_name(name.as_bytes()), want, "at {name}");
+    }
 }
