@@ -2,3 +2,4 @@ mod DefaultLemmas
 mod Examples
 mod ListingLemmas
 mod NameLemmas
+mod SearchLemmas

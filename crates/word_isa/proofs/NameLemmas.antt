@@ -1,5 +1,5 @@
 -- Names are ASCII, and the tests on names say what they say.
-use Rattle.std.specs.Prelude.{◌≡◌, ◌↔◌, ℕ, zero, suc, ◌<◌, ◌≤◌, Bool, true, false, not, ◌&&◌, ◌||◌, ◌==◌, nat_le, IsTrue, List, [], ◌∷◌, Option, Some, None, All, length, refl}
+use Rattle.std.specs.Prelude.{◌≡◌, ◌↔◌, ℕ, zero, suc, ◌<◌, Bool, true, false, not, ◌&&◌, nat_le, IsTrue, List, [], ◌∷◌, Option, Some, None, All, length, refl}
 use Rattle.std.proofs.Common.{sym, ◌∙◌, subst, arith, get_or}
 use Rattle.std.proofs.lemmas.List.Sums.{AllPass-from_list_all}
 use Rattle.std.proofs.lemmas.Bool.{leb-true, le-leb}
@@ -10,8 +10,8 @@ use Rattle.std.proofs.lemmas.Str.Ascii.{IsAscii-from_all}
 use Rattle.std.specs.Bool.{Decides}
 use Rattle.std.specs.List.{list_all}
 use Rattle.std.specs.Option.{is_some}
-use Rattle.std.specs.Str.{IsAscii, IsUtf8, bytes_eq}
-use Rattle.op_table.specs.Places.{IsAt, place_of}
+use Rattle.std.specs.Str.{IsUtf8, bytes_eq}
+use Rattle.op_table.specs.Places.{place_of}
 use Rattle.op_table.specs.PlaceLemmas.{place_found, placed}
 use Rattle.op_table.specs.Reserved.{IsReserved, reserved_words}
 use Rattle.word_isa.specs.Names.{is_letter, is_word_byte, is_name_token, is_reserved, is_symbol_name, IsSymbolName}

@@ -1,8 +1,12 @@
 pub mod Decoding
+pub mod Entries
 pub mod Fields
+pub mod FirstFailing
 pub mod Instructions
 pub mod Listing
+pub mod Marks
 pub mod Names
 pub mod Operands
 pub mod Parts
 pub mod RowLaws
+pub mod Words
