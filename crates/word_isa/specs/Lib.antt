@@ -1,7 +1,9 @@
+pub mod Checks
 pub mod Decoding
 pub mod Entries
 pub mod Fields
 pub mod FirstFailing
+pub mod ImageLaws
 pub mod Instructions
 pub mod Listing
 pub mod Marks
@@ -9,4 +11,3 @@ pub mod Names
 pub mod Operands
 pub mod Parts
 pub mod RowLaws
-pub mod Words

@@ -1,6 +1,6 @@
 //! The tests of an image's counts, code words, stride and kept words.
 ghost use Rattle.std.specs.Prelude.{◌≡◌};
-ghost use Rattle.word_isa.specs.Words as spec;
+ghost use Rattle.word_isa.specs.Checks as spec;
 
 use crate::encoding::decode;
 use crate::parts::Scheme;
@@ -32,7 +32,7 @@ pub fn first_too_large(
 }
 
 /// The place of the first word, from 0, that no row has.
-#[tactic(auto, unfolding(crate::specs::Words::first_bad_word))]
+#[tactic(auto, unfolding(crate::specs::Checks::first_bad_word))]
 pub fn first_bad_word(code: &[u32]) -> Option<usize>
     ensures { result ≡ spec.first_bad_word code.now }
 {

@@ -1,6 +1,6 @@
 //! The image of a program, which always meets the tests that reading makes.
 ghost use Rattle.std.specs.Prelude.{◌≡◌, None, IsTrue, length};
-ghost use Rattle.word_isa.specs.Words.{first_too_large, first_bad_word, banks_pass};
+ghost use Rattle.word_isa.specs.Checks.{first_too_large, first_bad_word, banks_pass};
 ghost use Rattle.word_isa.specs.Entries.{span, first_bad_symbol, first_bad_peripheral};
 ghost use Rattle.word_isa.specs.Marks.{first_bad_mark};
 

@@ -6,6 +6,8 @@ mod encoding;
 mod entries;
 mod fields;
 mod image;
+#[cfg(test)]
+mod image_tests;
 mod instr;
 mod listing;
 mod marks;
