@@ -2,10 +2,10 @@
 use Rattle.std.specs.Prelude.{◌≡◌, ℕ, List, [], ◌∷◌, Some, None, true, false, codes, refl}
 use Rattle.op_table.specs.Places.{place_of}
 use Rattle.op_table.specs.Reserved.{reserved_words}
-use Rattle.task_ast.specs.declared.tree.Kind.TheVariants.{Nv, Const, Vol}
+use Rattle.task_ast.specs.declared.tree.Kind.TheVariants.{Nv}
 use Rattle.word_isa.specs.Checks.{first_too_large, first_bad_word, banks_pass}
 use Rattle.word_isa.specs.Decoding.{decoded}
-use Rattle.word_isa.specs.Entries.{span, meet, is_home, symbol_passes, first_bad_symbol}
+use Rattle.word_isa.specs.Entries.{span, meet, symbol_passes, first_bad_symbol}
 use Rattle.word_isa.specs.FirstFailing.{first_failing}
 use Rattle.word_isa.specs.Marks.{mark_passes, first_bad_mark}
 use Rattle.word_isa.specs.Names.{is_name_token, is_reserved, is_symbol_name}

@@ -1,10 +1,10 @@
 -- What the tests of an image give its users.
 use Rattle.std.specs.Prelude.{◌≡◌, ℕ, zero, suc, ◌+◌, Bool, true, false, List, [], ◌∷◌, ◌++◌, Option, Some, None, if◌then◌else◌, slice_get, refl}
-use Rattle.std.proofs.Common.{sym, ◌∙◌, ap, subst, take, append_assoc}
+use Rattle.std.proofs.Common.{sym, ◌∙◌, subst, take, append_assoc}
 use Rattle.std.proofs.lemmas.Iterator.Adapters.{position_from-zero}
 use Rattle.std.proofs.lemmas.List.{append-nil}
 use Rattle.std.specs.Option.{option_map, is_none}
-use Rattle.std.specs.List.{position, position_from}
+use Rattle.std.specs.List.{position_from}
 use Rattle.word_isa.specs.Checks.{first_bad_word}
 use Rattle.word_isa.specs.Decoding.{decoded}
 use Rattle.word_isa.specs.FirstFailing.{first_failing}

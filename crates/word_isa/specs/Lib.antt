@@ -4,6 +4,7 @@ pub mod Entries
 pub mod Fields
 pub mod FirstFailing
 pub mod ImageLaws
+pub mod ImageTests
 pub mod Instructions
 pub mod Listing
 pub mod Marks

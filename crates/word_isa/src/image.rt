@@ -1,8 +1,5 @@
 //! The image of a program, which always meets the tests that reading makes.
-ghost use Rattle.std.specs.Prelude.{◌≡◌, None, IsTrue, length};
-ghost use Rattle.word_isa.specs.Checks.{first_too_large, first_bad_word, banks_pass};
-ghost use Rattle.word_isa.specs.Entries.{span, first_bad_symbol, first_bad_peripheral};
-ghost use Rattle.word_isa.specs.Marks.{first_bad_mark};
+ghost use Rattle.word_isa.specs.ImageTests.{PassesTests};
 
 use crate::parts::{Mark, Scheme, Symbol};
 use ease_base::{List, Peripheral, Words};
@@ -25,10 +22,5 @@ pub struct Image {
     pub symbols: List<Symbol>,
     pub peripherals: List<Peripheral>,
     pub marks: List<Mark>,
-    pub ghost sized: { first_too_large (length code) (length fram) (length symbols) (length peripherals) (length marks) ≡ None },
-    pub ghost coded: { first_bad_word code ≡ None },
-    pub ghost banked: { IsTrue (banks_pass scheme stride keep keep_words) },
-    pub ghost named: { first_bad_symbol (span keep keep_words) stride symbols ≡ None },
-    pub ghost attached: { first_bad_peripheral symbols peripherals ≡ None },
-    pub ghost marked: { first_bad_mark code marks ≡ None },
+    pub ghost tested: { PassesTests scheme stride keep keep_words code fram symbols peripherals marks },
 }

@@ -168,15 +168,18 @@ fn a_mark_stands_at_an_instruction_of_its_kind(rt: HostRuntime) {
     }
 }
 
-// The image of this code and nothing else, where each word has a row.
+// The image of this code and nothing else; None where a test of an image fails.
 fn bare_image(alloc: Global, code: Words) -> Option<Image> {
     let fram = Words::new(alloc);
-    if code.len() > 1000 {
+    let Ok(count) = u32::try_from(code.len()) else {
         return None;
-    }
-    if first_bad_word(code.as_slice()).is_some() {
+    };
+    let None = first_too_large(count, 0, 0, 0, 0) else {
         return None;
-    }
+    };
+    let None = first_bad_word(code.as_slice()) else {
+        return None;
+    };
     Some(Image {
         scheme: Scheme::Undo,
         state: 0,

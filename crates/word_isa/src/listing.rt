@@ -15,6 +15,7 @@ pub fn list_word(out: &mut Text, word: u32) -> Result<(), NoMemory>
     ensures ok { OnOk result (out.new ≡ out.old ++ word_text word) }
     ensures partly { OnErr result (IsPart out.old out.new (word_text word)) }
 {
+    // the last column is the form: 0 none, 1 A, 2 M, 3 T, 4 A and B, 5 A and M, 6 A, B and M, 7 the same with M a register
     let rows = rows! {
         1 "HALT" 0;
         2 "LDI" 5;
