@@ -34,9 +34,9 @@ listed (op_dma a b m) = Register a ∷ Register b ∷ Register m ∷ []
 abbrev pub instr_text : Instr → List ℕ
 instr_text i = (row_of i).name ++ operands_text (listed (row_of i).operands)
 
--- an instruction, or ? where there is none
+-- an instruction, or 63, the question mark, where there is none
 abbrev pub text_or_mark : Option Instr → List ℕ
-text_or_mark None = codes "?"
+text_or_mark None = 63 ∷ []
 text_or_mark (Some i) = instr_text i
 
 -- the listing of a word

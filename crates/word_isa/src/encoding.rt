@@ -62,7 +62,7 @@ fn arguments_fit(b: u8, m: u16) -> bool
     count <= 4 && b as u16 + count <= 16
 }
 
-/// The word of the instruction, whose operands must fit their fields.
+/// The word of the instruction, whose operands must fit their fields. `decode` gives the instruction again.
 pub fn encode(i: Instr) -> u32
     requires { FitsFields i }
     ensures value { result ≡ encoded i }
