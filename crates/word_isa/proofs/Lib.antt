@@ -1,0 +1,6 @@
+mod DefaultLemmas
+mod Examples
+mod ImageExamples
+mod ListingLemmas
+mod NameLemmas
+mod SearchLemmas

@@ -1,0 +1,14 @@
+pub mod Checks
+pub mod Decoding
+pub mod Entries
+pub mod Fields
+pub mod FirstFailing
+pub mod ImageLaws
+pub mod ImageTests
+pub mod Instructions
+pub mod Listing
+pub mod Marks
+pub mod Names
+pub mod Operands
+pub mod Parts
+pub mod RowLaws

@@ -1,0 +1,203 @@
+//! Parts of images that pass or fail their tests, and the smallest image.
+use crate::{
+    Image, Mark, Scheme, Symbol, banks_pass, first_bad_mark, first_bad_peripheral,
+    first_bad_symbol, first_bad_word, first_too_large,
+};
+use ease_base::{List, NoMemory, Peripheral, Text, Words};
+use std::alloc::Global;
+use task_ast::Kind;
+
+#[test]
+fn the_first_count_past_its_limit_is_told(rt: HostRuntime) {
+    assert_eq!(rt;
+        first_too_large(4_194_304, 65_536, 256, 256, 2_097_152),
+        None
+    );
+    assert_eq!(rt;
+        first_too_large(4_194_305, 65_537, 0, 0, 0),
+        Some(4_194_305)
+    );
+    assert_eq!(rt; first_too_large(0, 65_537, 257, 0, 0), Some(65_537));
+    assert_eq!(rt; first_too_large(0, 0, 257, 258, 0), Some(257));
+    assert_eq!(rt; first_too_large(0, 0, 0, 258, 2_097_153), Some(258));
+    assert_eq!(rt; first_too_large(0, 0, 0, 0, 2_097_153), Some(2_097_153));
+}
+
+#[test]
+fn kept_words_end_with_the_memory(rt: HostRuntime) {
+    assert!(rt; banks_pass(Scheme::Undo, 0, 65_535, 1));
+    assert!(rt; !banks_pass(Scheme::Undo, 0, 65_535, 2));
+    assert!(rt; !banks_pass(Scheme::Undo, 1, 0, 0));
+    assert!(rt; banks_pass(Scheme::Bank, 1, 65_535, 0));
+    assert_eq!(rt;
+        first_bad_word(&[0x0100_0000, 0x1900_0000, 0x1901_0000]),
+        Some(2)
+    );
+}
+
+// A list of one symbol `a` of one nonvolatile word at 10, and of this one.
+fn two_symbols(
+    alloc: Global,
+    name: &str,
+    kind: Kind,
+    base: u32,
+    length: u32,
+) -> Result<List<Symbol>, NoMemory> {
+    let mut symbols = List::new(alloc);
+    let first = Text::from_slice(alloc, b"a")?;
+    symbols.push(Symbol {
+        name: first,
+        kind: Kind::Nv,
+        base: 10,
+        length: 1,
+    })?;
+    let second = Text::from_slice(alloc, name.as_bytes())?;
+    symbols.push(Symbol {
+        name: second,
+        kind,
+        base,
+        length,
+    })?;
+    Ok(symbols)
+}
+
+#[test]
+fn a_symbol_lies_in_its_memory_and_apart(rt: HostRuntime) {
+    // with kept words at 20 and 21, and a stride of 100
+    let table = [
+        ("b", Kind::Nv, 11, 2, None),
+        ("a", Kind::Nv, 11, 2, Some(1)),
+        ("9", Kind::Nv, 11, 2, Some(1)),
+        ("b", Kind::Nv, 11, 0, Some(1)),
+        ("b", Kind::Nv, 9, 2, Some(1)),
+        ("b", Kind::Const, 110, 1, Some(1)),
+        ("b", Kind::Nv, 19, 2, Some(1)),
+        ("b", Kind::Const, 22, 1, None),
+        ("b", Kind::Const, 65_535, 1, None),
+        ("b", Kind::Const, 65_535, 2, Some(1)),
+        ("b", Kind::Nv, 65_435, 1, None),
+        ("b", Kind::Nv, 65_436, 1, Some(1)),
+        ("b", Kind::Vol, 1_048_576, 4_096, None),
+        ("b", Kind::Vol, 1_048_576, 4_097, Some(1)),
+        ("b", Kind::Vol, 11, 1, Some(1)),
+    ];
+    for (name, kind, base, length, want) in table {
+        let symbols = two_symbols(rt.alloc(), name, kind, base, length).expect(&rt, "memory");
+        assert_eq!(rt;
+            first_bad_symbol(20, 2, 100, symbols.as_slice()),
+            want,
+            "at {name} {base} {length}"
+        );
+    }
+}
+
+fn two_peripherals(alloc: Global, name: &str, number: u8) -> Result<List<Peripheral>, NoMemory> {
+    let mut peripherals = List::new(alloc);
+    let first = Text::from_slice(alloc, b"temp")?;
+    peripherals.push(Peripheral {
+        name: first,
+        number: 0,
+    })?;
+    let second = Text::from_slice(alloc, name.as_bytes())?;
+    peripherals.push(Peripheral {
+        name: second,
+        number,
+    })?;
+    Ok(peripherals)
+}
+
+#[test]
+fn a_peripheral_has_a_name_and_a_number_of_its_own(rt: HostRuntime) {
+    let symbols = two_symbols(rt.alloc(), "b", Kind::Nv, 11, 1).expect(&rt, "memory");
+    let table = [
+        ("radio", 1, None),
+        ("temp", 1, Some(1)),
+        ("b", 1, Some(1)),
+        ("radio", 0, Some(1)),
+        ("IO", 1, Some(1)),
+    ];
+    for (name, number, want) in table {
+        let peripherals = two_peripherals(rt.alloc(), name, number).expect(&rt, "memory");
+        assert_eq!(rt;
+            first_bad_peripheral(symbols.as_slice(), peripherals.as_slice()),
+            want,
+            "at {name} {number}"
+        );
+    }
+}
+
+#[test]
+fn a_mark_stands_at_an_instruction_of_its_kind(rt: HostRuntime) {
+    // LDI, TIME, MOV, ST, IO, DMA, HALT
+    let code = [
+        0x0210_0007,
+        0x1720_0000,
+        0x0412_0000,
+        0x1330_0005,
+        0x1631_0100,
+        0x1812_0003,
+        0x0100_0000,
+    ];
+    let table = [
+        (1, 2, 1, None),
+        (2, 3, 1, None),
+        (3, 4, 1, None),
+        (3, 6, 1, None),
+        (3, 8, 0, None),
+        (4, 5, 1, None),
+        (5, 7, 255, None),
+        (3, 4, 0, Some(1)),
+        (3, 7, 1, Some(1)),
+        (0, 1, 1, Some(1)),
+        (6, 0, 1, Some(1)),
+        (6, 9, 1, Some(1)),
+        (7, 8, 1, Some(1)),
+    ];
+    for (at, kind, site, want) in table {
+        let begin = Mark {
+            at: 0,
+            kind: 1,
+            site: 1,
+        };
+        let marks = [begin, Mark { at, kind, site }];
+        assert_eq!(rt;
+            first_bad_mark(&code, &marks),
+            want,
+            "at {at} {kind} {site}"
+        );
+    }
+}
+
+// The image of this code and nothing else; None where a test of an image fails.
+fn bare_image(alloc: Global, code: Words) -> Option<Image> {
+    let fram = Words::new(alloc);
+    let Ok(count) = u32::try_from(code.len()) else {
+        return None;
+    };
+    let None = first_too_large(count, 0, 0, 0, 0) else {
+        return None;
+    };
+    let None = first_bad_word(code.as_slice()) else {
+        return None;
+    };
+    Some(Image {
+        scheme: Scheme::Undo,
+        state: 0,
+        stride: 0,
+        keep: 0,
+        keep_words: 0,
+        code,
+        fram,
+        symbols: List::new(alloc),
+        peripherals: List::new(alloc),
+        marks: List::new(alloc),
+    })
+}
+
+#[test]
+fn an_image_is_made_of_code_whose_words_have_rows(rt: HostRuntime) {
+    let halt = Words::from_slice(rt.alloc(), &[0x0100_0000]).expect(&rt, "memory");
+    assert!(rt; bare_image(rt.alloc(), halt).is_some());
+    let zero = Words::from_slice(rt.alloc(), &[0]).expect(&rt, "memory");
+    assert!(rt; bare_image(rt.alloc(), zero).is_none());
+}

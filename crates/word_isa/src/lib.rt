@@ -1,0 +1,28 @@
+//! The machine's instructions, decoded, encoded and listed, and the image that holds them.
+#![tactic(auto)]
+
+mod checks;
+mod encoding;
+mod entries;
+mod fields;
+mod image;
+#[cfg(test)]
+mod image_tests;
+mod instr;
+mod listing;
+mod marks;
+mod names;
+mod parts;
+mod span;
+#[cfg(test)]
+mod tests;
+
+pub use checks::{banks_pass, first_bad_word, first_too_large};
+pub use encoding::{decode, encode};
+pub use entries::{first_bad_peripheral, first_bad_symbol};
+pub use image::Image;
+pub use instr::Instr;
+pub use listing::list_word;
+pub use marks::first_bad_mark;
+pub use names::is_symbol_name;
+pub use parts::{Mark, Scheme, Symbol};
