@@ -1,9 +1,4 @@
-pub mod BearerLemmas
-pub mod DeclarationLemmas
-pub mod ExpressionLemmas
 pub mod FirstLemmas
 pub mod ListLemmas
 pub mod MeaningLemmas
 pub mod NameLemmas
-pub mod ProgramLemmas
-pub mod WellFormed

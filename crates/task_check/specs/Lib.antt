@@ -4,5 +4,8 @@ pub mod CheckedForm
 pub mod Examples
 pub mod Faults
 pub mod Laws
+pub mod Limits
 pub mod Names
+pub mod Nodes
+pub mod Refusals
 pub mod Table
