@@ -1,3 +1,4 @@
+pub mod ExpressionLemmas
 pub mod FirstLemmas
 pub mod ListLemmas
 pub mod MeaningLemmas

@@ -2,6 +2,7 @@
 use Rattle.std.specs.Prelude.{ℕ, List, [], ◌∷◌, length, nat_lt, Option, None, Some, if◌then◌else◌, bytes_eq}
 use Rattle.std.specs.List.{list_any}
 use Rattle.ease_base.specs.declared.place.Pos.{Pos}
+use Rattle.task_ast.specs.declared.tree.Kind.{Kind}
 use Rattle.task_ast.specs.declared.tree.Kind.TheVariants.{Const, Vol}
 use Rattle.task_ast.specs.declared.tree.Name.{Name}
 use Rattle.task_ast.specs.declared.tree.Decl.{Decl}
@@ -46,15 +47,24 @@ not_variable at None = []
 not_variable at (Some (meaning.Scalar a Vol)) = []
 not_variable at (Some m) = WrongKind at ∷ []
 
+-- the array of this number is the variable of a loop around the place
+abbrev pub turning_at : List ℕ → Pos → ℕ → List CheckError
+turning_at turning at array = if is_turning turning array then WrongKind at ∷ [] else []
+
 -- A loop's variable is assigned, or is a loop's variable again, inside the loop; the use. The variables of the
 -- loops around it are given by the numbers of their arrays.
 abbrev pub turning_already : List ℕ → Pos → Option Meaning → List CheckError
-turning_already turning at m = if is_turning turning (array_number m) then WrongKind at ∷ [] else []
+turning_already turning at m = turning_at turning at (array_number m)
+
+-- a word of this kind is written
+abbrev pub kind_written : Pos → Kind → List CheckError
+kind_written at Const = ConstWritten at ∷ []
+kind_written at _ = []
 
 -- the target of an assignment is constant; the use
 abbrev pub const_written : Pos → Option Meaning → List CheckError
-const_written at (Some (meaning.Scalar a Const)) = ConstWritten at ∷ []
-const_written at (Some (meaning.Array a Const)) = ConstWritten at ∷ []
+const_written at (Some (meaning.Scalar a kind)) = kind_written at kind
+const_written at (Some (meaning.Array a kind)) = kind_written at kind
 const_written at _ = []
 
 -- the words of a declaration: 1, or as many as its brackets say; today's are of words

@@ -2,6 +2,8 @@
 #![tactic(auto)]
 
 mod error;
+mod expressions;
 mod names;
+mod targets;
 
 pub use error::{CheckError, Limit};
