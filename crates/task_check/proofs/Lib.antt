@@ -3,3 +3,4 @@ pub mod FirstLemmas
 pub mod ListLemmas
 pub mod MeaningLemmas
 pub mod NameLemmas
+pub mod StatementLemmas

@@ -7,6 +7,10 @@ use Rattle.task_check.specs.declared.error.CheckError.{CheckError}
 use Rattle.task_check.specs.Faults.{first}
 use Rattle.task_check.proofs.FirstLemmas.{first-front}
 
+append_none : {Y : Type 0} (l : List Y) → l ++ [] ≡ l
+append_none [] = refl
+append_none (z ∷ zs) = ap (λ t. z ∷ t) (append_none zs)
+
 module _ {X : Type 0} (xs : List X) (i : ℕ) (x : X) (within : i < length xs) (is : x ≡ get_or xs i x) where
   -- what is left begins with the item at the place
   pub rest_is : drop i xs ≡ x ∷ drop (i + 1) xs
@@ -24,10 +28,6 @@ module _ {X : Type 0} (xs : List X) (i : ℕ) (x : X) (within : i < length xs) (
   pub made_push : {Y : Type 0} (g : X → List Y) (done : List Y) (y : Y) → done ≡ flat_map g (take i xs) → g x ≡ y ∷ [] → done ++ y ∷ [] ≡ flat_map g (take (i + 1) xs)
   made_push g done y at_done made =
       (λ j. at_done j ++ sym made j) ∙ sym (ap (flat_map g) front_is ∙ flat_map-append g (take i xs) (x ∷ []) ∙ ap (λ l. flat_map g (take i xs) ++ l) (append_none (g x)))
-    where
-      append_none : {Y : Type 0} (l : List Y) → l ++ [] ≡ l
-      append_none [] = refl
-      append_none (z ∷ zs) = ap (λ t. z ∷ t) (append_none zs)
 
   module _ (f : X → List CheckError) (left : flat_map f xs ≡ flat_map f (drop i xs)) where
     faults_are : flat_map f xs ≡ f x ++ flat_map f (drop (i + 1) xs)

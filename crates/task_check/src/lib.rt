@@ -4,6 +4,7 @@
 mod error;
 mod expressions;
 mod names;
+mod statements;
 mod targets;
 
 pub use error::{CheckError, Limit};
