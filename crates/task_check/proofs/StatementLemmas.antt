@@ -1,5 +1,5 @@
 -- What is asked and answered of an `if` and of a loop, by their parts.
-use Rattle.std.proofs.Common.{◌≡◌, ◌≢◌, ℕ, ◌+◌, List, [], ◌∷◌, ◌++◌, length, Some, refl, sym, ap, ◌∙◌}
+use Rattle.std.proofs.Common.{◌≡◌, ℕ, ◌+◌, List, [], ◌∷◌, ◌++◌, length, refl, sym, ap, ◌∙◌}
 use Rattle.ease_base.specs.declared.place.Pos.{Pos}
 use Rattle.task_ast.specs.declared.tree.Name.{Name}
 use Rattle.task_ast.specs.declared.tree.Expr.{Expr}
@@ -9,16 +9,11 @@ use Rattle.task_ast.specs.declared.core_form.CoreExpr.{CoreExpr}
 use Rattle.task_ast.specs.declared.core_form.CoreStmt.{CoreStmt}
 use Rattle.task_ast.specs.declared.core_form.CoreStmt.TheVariants as core
 use Rattle.task_check.specs.declared.error.CheckError.{CheckError}
-use Rattle.task_check.specs.declared.error.CheckError.TheVariants.{NoMemory}
 use Rattle.task_check.specs.Names.{Meanings, array_number}
 use Rattle.task_check.specs.Limits.{loops_limit, turns_limit}
 use Rattle.task_check.specs.Faults.{expr_faults, stmt_faults, body_faults, variable_faults, first, faults_if, faults_for}
 use Rattle.task_check.specs.CheckedForm.{core_expr, core_stmts, core_body, core_of_if, core_of_for}
-use Rattle.task_check.proofs.FirstLemmas.{first-front, first-behind, none-append}
-
--- an error that isn't want of memory is the first of these faults
-abbrev pub IsFirst : CheckError → List CheckError → Type 0
-IsFirst e faults = e ≢ NoMemory → first faults ≡ Some e
+use Rattle.task_check.proofs.FirstLemmas.{IsFirst, first-front, first-behind, none-append}
 
 module _ (names : Meanings) (turning : List ℕ) (s : Stmt) (c : Expr) (ys ns : List Stmt) (is : s ≡ If c ys ns) where
   if_faults : stmt_faults names turning s ≡ expr_faults names c ++ body_faults names turning ys ++ body_faults names turning ns

@@ -1,5 +1,6 @@
 pub mod Answers
 pub mod Bearers
+pub mod Capped
 pub mod CheckedForm
 pub mod Examples
 pub mod Faults

@@ -2,8 +2,11 @@
 #![tactic(auto)]
 
 mod error;
+mod exits;
 mod expressions;
+mod limits;
 mod names;
+mod nodes;
 mod statements;
 mod targets;
 

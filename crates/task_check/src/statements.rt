@@ -1,17 +1,17 @@
 //! Statements and bodies: their faults in text order, and what they become.
-ghost use Rattle.std.specs.Prelude.{◌≡◌, ◌++◌, ◌+◌, IfOk};
+ghost use Rattle.std.specs.Prelude.{◌≡◌, ◌++◌};
 ghost use Rattle.task_check.specs.Answers.{Answers};
 ghost use Rattle.task_check.specs.CheckedForm.{core_body, core_index, core_stmts, target_name};
 ghost use Rattle.task_check.specs.Faults.{body_faults, stmt_faults, target_faults};
-ghost use Rattle.task_check.specs.Limits.{loops_limit, turns_limit};
 ghost use Rattle.task_check.specs.Names.{array_number};
 ghost use Rattle.task_check.specs.Table.{meanings};
 
-use crate::error::{CheckError, Limit};
+use crate::error::CheckError;
 use crate::expressions::check_expr;
+use crate::limits::{may_nest, may_turn};
 use crate::names::Names;
 use crate::targets::{assigned_array, assigned_scalar, inside, variable};
-use ease_base::{List, Pos};
+use ease_base::List;
 use std::alloc::Global;
 use task_ast::{CoreExpr, CoreStmt, Stmt, Target};
 
@@ -39,26 +39,6 @@ fn check_target(alloc: Global, names: &Names, turning: &[u32], x: &Target) -> Re
     }
 }
 
-/// That a loop inside so many loops is one of three at most.
-fn may_nest(around: usize, word: Pos) -> Result<(), CheckError>
-    ensures { Answers (loops_limit word (around + 1)) (λ _. Unit {0}) result }
-{
-    if around >= 3 {
-        return Err(CheckError::LimitReached(word, Limit::Loops, around as u128 + 1));
-    }
-    Ok(())
-}
-
-/// That a loop has at most 65,535 turns.
-fn may_turn(turns: u32, at: Pos) -> Result<(), CheckError>
-    ensures { Answers (turns_limit at turns) (λ _. Unit {0}) result }
-{
-    if turns > 65535 {
-        return Err(CheckError::LimitReached(at, Limit::Turns, u128::from(turns)));
-    }
-    Ok(())
-}
-
 /// Checks a statement inside loops with these variables, and puts what it becomes behind `done`.
 #[cycle(check_stmts)]
 fn check_stmt(alloc: Global, names: &Names, turning: &[u32], s: &Stmt, done: &mut List<CoreStmt>) -> Result<(), CheckError>
@@ -80,9 +60,9 @@ fn check_stmt(alloc: Global, names: &Names, turning: &[u32], s: &Stmt, done: &mu
             Ok(())
         }
         Stmt::For(i, turns, at, body, word) => {
-            may_nest(turning.len(), *word)?;
+            may_nest(*word, turning.len())?;
             let i = variable(names, turning, i)?;
-            may_turn(*turns, *at)?;
+            may_turn(*at, *turns)?;
             let turning = inside(alloc, i, turning)?;
             let body = check_body(alloc, names, turning.as_slice(), body.as_slice())?;
             done.push(CoreStmt::Loop(i, *turns, body))?;
