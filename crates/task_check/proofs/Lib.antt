@@ -1,3 +1,4 @@
+pub mod DeclarationLemmas
 pub mod ExitLemmas
 pub mod ExpressionLemmas
 pub mod FirstLemmas
@@ -5,4 +6,5 @@ pub mod ListLemmas
 pub mod MeaningLemmas
 pub mod NameLemmas
 pub mod NodeLemmas
+pub mod SizeLemmas
 pub mod StatementLemmas

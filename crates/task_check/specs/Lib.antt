@@ -2,6 +2,7 @@ pub mod Answers
 pub mod Bearers
 pub mod Capped
 pub mod CheckedForm
+pub mod Counted
 pub mod Examples
 pub mod Faults
 pub mod Laws

@@ -1,6 +1,8 @@
 //! Checks a program that was read, and gives its checked form or the first fault in text order.
 #![tactic(auto)]
 
+mod arrays;
+mod declarations;
 mod error;
 mod exits;
 mod expressions;
@@ -9,5 +11,6 @@ mod names;
 mod nodes;
 mod statements;
 mod targets;
+mod tasks;
 
 pub use error::{CheckError, Limit};
