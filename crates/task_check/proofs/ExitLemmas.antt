@@ -1,5 +1,5 @@
 -- What is asked and answered of an exit that chooses, by its parts.
-use Rattle.std.proofs.Common.{◌≡◌, ◌≢◌, [], ◌++◌, refl, sym, ap, ◌∙◌}
+use Rattle.std.proofs.Common.{◌≡◌, [], ◌++◌, refl, sym, ap, ◌∙◌}
 use Rattle.task_ast.specs.declared.tree.Expr.{Expr}
 use Rattle.task_ast.specs.declared.tree.Exit.{Exit}
 use Rattle.task_ast.specs.declared.tree.Exit.TheVariants.{Choose}

@@ -1,3 +1,4 @@
+pub mod BearerLemmas
 pub mod DeclarationLemmas
 pub mod ExitLemmas
 pub mod ExpressionLemmas
@@ -6,5 +7,6 @@ pub mod ListLemmas
 pub mod MeaningLemmas
 pub mod NameLemmas
 pub mod NodeLemmas
+pub mod ProgramLemmas
 pub mod SizeLemmas
 pub mod StatementLemmas

@@ -1,5 +1,5 @@
 -- A name that is declared twice, told by its first bearer.
-use Rattle.std.specs.Prelude.{ℕ, ◌+◌, ◌==◌, List, [], ◌∷◌, ◌++◌, length, Option, Some, if◌then◌else◌}
+use Rattle.std.specs.Prelude.{ℕ, ◌==◌, List, [], ◌∷◌, Option, Some, if◌then◌else◌}
 use Rattle.ease_base.specs.declared.place.Pos.{Pos}
 use Rattle.task_check.specs.declared.error.CheckError.{CheckError}
 use Rattle.task_check.specs.declared.error.CheckError.TheVariants.{TwiceNamed}

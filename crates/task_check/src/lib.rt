@@ -9,8 +9,10 @@ mod expressions;
 mod limits;
 mod names;
 mod nodes;
+mod program;
 mod statements;
 mod targets;
 mod tasks;
 
 pub use error::{CheckError, Limit};
+pub use program::check;

@@ -3,7 +3,7 @@ use Rattle.std.proofs.lemmas.Result.{err_from_is_err_and}
 use Rattle.task_ast.specs.declared.tree.Name.{Name}
 use Rattle.task_check.specs.declared.names.Meaning.{Meaning}
 use Rattle.task_check.specs.Limits.{fram_words, ram_words}
-use Rattle.task_check.specs.Names.{decl_name, decl_text, decl_meaning, extended}
+use Rattle.task_check.specs.Names.{decl_text, extended}
 use Rattle.task_check.specs.Table.{meanings}
 use Rattle.task_check.proofs.DeclarationLemmas.{array_declared, twice_here, fault_here, once_here}
 use Rattle.task_check.proofs.ListLemmas.{sum_more}
