@@ -81,9 +81,9 @@ pub counted_is : (names : Meanings) (texts : List (List ℕ)) (earlier : List De
 counted_is names texts earlier before number nodes [] at_number at_nodes at_texts below is = refl
 counted_is names texts earlier before number nodes (t ∷ ts) at_number at_nodes at_texts below is =
     (λ i. ((name i ++ task_limit t.name.at (at_number i + 1) ++ name_limit t.name.at (sum i) ++ bytes_limit t.name) ++ inner_faults names t ++ passes Nodes 32768 t.close (at_nodes i + nodes_of_task t))
-        ++ counted_is names texts (earlier ++ named t (number + 1) ∷ []) (before ++ t ∷ []) (number + 1) (nodes + nodes_of_task t) ts more_tasks more_nodes more_texts all_below longer i)
+    ++ counted_is names texts (earlier ++ named t (number + 1) ∷ []) (before ++ t ∷ []) (number + 1) (nodes + nodes_of_task t) ts more_tasks more_nodes more_texts all_below longer i)
     ∙ ap (λ (l : List CheckError). l ++ tasks_faults names texts (before ++ t ∷ []) ts)
-      (front_out (twice_named (texts ++ map task_text before) t.name) (task_limit t.name.at (length before + 1)) (name_limit t.name.at (length texts + length before + 1)) (bytes_limit t.name) (inner_faults names t) (node_limit before t))
+    (front_out (twice_named (texts ++ map task_text before) t.name) (task_limit t.name.at (length before + 1)) (name_limit t.name.at (length texts + length before + 1)) (bytes_limit t.name) (inner_faults names t) (node_limit before t))
   where
     sum : length texts + (number + 1) ≡ length texts + length before + 1
     sum = omega (arith, at_number)

@@ -45,7 +45,7 @@ module _ (all : List Decl) (i : ℕ) (d : Decl) (within : i < length all) (is : 
     faults_are =
         left ∙ ap (decls_faults (take i all)) (rest_is all i d within is)
         ∙ (λ j. front_out (twice_named (map decl_text (take i all)) (decl_name d)) (too_many_values d) (name_limit (decl_name d).at (length (take i all) + 1)) (nv_limit (take i all) d) (vol_limit (take i all) d) (length_limit d) (bytes_limit (decl_name d)) j
-            ++ decls_faults (sym (front_is all i d within is) j) (drop (i + 1) all))
+        ++ decls_faults (sym (front_is all i d within is) j) (drop (i + 1) all))
         ∙ (λ j. twice_is j ++ rest_counted j ++ decls_faults (take (i + 1) all) (drop (i + 1) all))
 
     -- a name that the table has is the first fault

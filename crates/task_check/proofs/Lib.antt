@@ -8,5 +8,6 @@ pub mod MeaningLemmas
 pub mod NameLemmas
 pub mod NodeLemmas
 pub mod ProgramLemmas
+pub mod SampleLemmas
 pub mod SizeLemmas
 pub mod StatementLemmas

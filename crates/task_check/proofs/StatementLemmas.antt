@@ -40,7 +40,7 @@ module _ (names : Meanings) (turning : List ℕ) (s : Stmt) (c : Expr) (ys ns : 
         let second_none : body_faults names turning ns ≡ [] = ap (body_faults names turning) (sym at_ns) ∙ none_second in (
           if_faults ∙ none-append _ _ (none-append _ _ none first_none) second_none,
           made ∙ (λ i. done ++ core.If (cis i) ((yis ∙ ap (core_body names) at_ys) i) ((nis ∙ ap (core_body names) at_ns) i) ∷ [])
-          ∙ ap (λ (l : List CoreStmt). done ++ l) (sym (ap (core_stmts names) is ∙ core_of_if names c ys ns)),
+              ∙ ap (λ (l : List CoreStmt). done ++ l) (sym (ap (core_stmts names) is ∙ core_of_if names c ys ns)),
         )
 
 module _ (names : Meanings) (turning : List ℕ) (s : Stmt) (x : Name) (turns : ℕ) (at : Pos) (body : List Stmt) (word : Pos) (is : s ≡ For x turns at body word) where
@@ -64,5 +64,5 @@ module _ (names : Meanings) (turning : List ℕ) (s : Stmt) (x : Name) (turns : 
     loop_made b done new none_body bis made = (
       loop_faults ∙ none-append _ _ (none-append _ _ (none-append _ _ none none_variable) none_turns) (sym body_is ∙ none_body),
       made ∙ (λ j. done ++ core.Loop (at_i j) turns ((bis ∙ ap (core_body names) at_body) j) ∷ [])
-      ∙ ap (λ (l : List CoreStmt). done ++ l) (sym (ap (core_stmts names) is ∙ core_of_for names x turns at body word)),
+          ∙ ap (λ (l : List CoreStmt). done ++ l) (sym (ap (core_stmts names) is ∙ core_of_for names x turns at body word)),
     )

@@ -27,7 +27,11 @@ fn push_array(alloc: Global, d: &Decl, done: &mut List<Array>) -> Result<(), NoM
         Decl::Words(kind, x, _, values) => {
             let name = List::from_slice(alloc, x.text.as_slice())?;
             let first = words(alloc, length_of(d) as usize, values)?;
-            done.push(Array { name, kind: *kind, first })?;
+            done.push(Array {
+                name,
+                kind: *kind,
+                first,
+            })?;
             Ok(())
         }
         Decl::Pointer(_) | Decl::Peripheral(..) => Ok(()),

@@ -13,6 +13,8 @@ mod program;
 mod statements;
 mod targets;
 mod tasks;
+#[cfg(test)]
+mod tests;
 
 pub use error::{CheckError, Limit};
 pub use program::check;

@@ -22,14 +22,22 @@ struct Cell {
     index: CoreExpr,
 }
 
-fn check_target(alloc: Global, names: &Names, turning: &[u32], x: &Target) -> Result<Cell, CheckError>
+fn check_target(
+    alloc: Global,
+    names: &Names,
+    turning: &[u32],
+    x: &Target,
+) -> Result<Cell, CheckError>
     ensures { Answers (target_faults (meanings names.now) turning.now x.now)
         (λ c. (c.array ≡ array_number (meanings names.now (target_name x.now).text)) × (c.index ≡ core_index (meanings names.now) x.now)) result }
 {
     match x {
         Target::Scalar(x) => {
             let array = assigned_scalar(names, turning, x)?;
-            Ok(Cell { array, index: CoreExpr::Number(0) })
+            Ok(Cell {
+                array,
+                index: CoreExpr::Number(0),
+            })
         }
         Target::Element(x, index) => {
             let array = assigned_array(names, turning, x)?;
@@ -41,7 +49,13 @@ fn check_target(alloc: Global, names: &Names, turning: &[u32], x: &Target) -> Re
 
 /// Checks a statement inside loops with these variables, and puts what it becomes behind `done`.
 #[cycle(check_stmts)]
-fn check_stmt(alloc: Global, names: &Names, turning: &[u32], s: &Stmt, done: &mut List<CoreStmt>) -> Result<(), CheckError>
+fn check_stmt(
+    alloc: Global,
+    names: &Names,
+    turning: &[u32],
+    s: &Stmt,
+    done: &mut List<CoreStmt>,
+) -> Result<(), CheckError>
     ensures { Answers (stmt_faults (meanings names.now) turning.now s.now)
         (λ _. done.new ≡ done.old ++ core_stmts (meanings names.now) s.now) result }
 {
@@ -74,7 +88,12 @@ fn check_stmt(alloc: Global, names: &Names, turning: &[u32], s: &Stmt, done: &mu
 
 /// What the statements of a body become, inside loops with these variables.
 #[cycle(check_stmts)]
-pub fn check_body(alloc: Global, names: &Names, turning: &[u32], body: &[Stmt]) -> Result<List<CoreStmt>, CheckError>
+pub fn check_body(
+    alloc: Global,
+    names: &Names,
+    turning: &[u32],
+    body: &[Stmt],
+) -> Result<List<CoreStmt>, CheckError>
     ensures { Answers (body_faults (meanings names.now) turning.now body.now)
         (λ cs. cs ≡ core_body (meanings names.now) body.now) result }
 {

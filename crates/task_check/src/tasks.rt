@@ -79,7 +79,12 @@ fn more_nodes(nodes: u128, t: &Task) -> Result<u128, CheckError>
 }
 
 /// The checked form of tasks that are numbered from 1, behind so many declarations.
-pub fn check_tasks(alloc: Global, names: &Names, words: usize, tasks: &[Task]) -> Result<List<CoreTask>, CheckError>
+pub fn check_tasks(
+    alloc: Global,
+    names: &Names,
+    words: usize,
+    tasks: &[Task],
+) -> Result<List<CoreTask>, CheckError>
     requires size { sum_by task_size tasks.now < 2 ^ 32 }
     ensures { Answers (tasks_at (meanings names.now) words 0 0 tasks.now)
         (λ ts. ts ≡ map (core_task (meanings names.now)) tasks.now) result }
