@@ -1,4 +1,5 @@
--- The limits on declarations and tasks, each as the refusal that it gives at a place, with its count, or none.
+-- The limits, each as the refusal that it gives at a place, with its count, or none. A count that only grows is above
+-- its limit at every further place too; the first of these refusals is the one that a program has.
 use Rattle.std.specs.Prelude.{ℕ, ◌+◌, List, [], ◌∷◌, length, sum_by, nat_lt, ◌==◌, if◌then◌else◌}
 use Rattle.ease_base.specs.declared.place.Pos.{Pos}
 use Rattle.task_ast.specs.declared.tree.Name.{Name}
