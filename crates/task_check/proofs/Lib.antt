@@ -6,3 +6,4 @@ pub mod MeaningLemmas
 pub mod NameLemmas
 pub mod NodeLemmas
 pub mod StatementLemmas
+pub mod WellFormedForms
