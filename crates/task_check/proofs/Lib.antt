@@ -6,4 +6,7 @@ pub mod MeaningLemmas
 pub mod NameLemmas
 pub mod NodeLemmas
 pub mod StatementLemmas
+pub mod WellFormed
+pub mod WellFormedCounts
 pub mod WellFormedForms
+pub mod WellFormedNames

@@ -78,6 +78,10 @@ within limit most at count = by_test (nat_lt most count) refl
     by_test true is none = absurd (let e = ap length none in omega (arith, e))
     by_test false is none = grind (arith, nat_tests)
 
+pub all_append : {A : Type 0} (P : A → Type 0) (xs ys : List A) → AllByRecursion P xs → AllByRecursion P ys → AllByRecursion P (xs ++ ys)
+all_append P [] ys h k = k
+all_append P (x ∷ xs) ys h k = (h.0, all_append P xs ys h.1 k)
+
 module _ (names : Meanings) (arrays : List Array) (tasks : ℕ) (there : (text : List ℕ) → IsThereIfSome arrays tasks (names text)) where
   -- a scalar that is read
   scalar_there : (at : Pos) (m : Option Meaning) → IsThereIfSome arrays tasks m → unknown_name at m ++ not_scalar at m ≡ [] → array_number m < length arrays
@@ -199,10 +203,6 @@ module _ (names : Meanings) (arrays : List Array) (tasks : ℕ) (there : (text :
   variable_formed turning at (Some (meaning.Scalar n Const)) h none = absurd (let e = ap length none in omega (arith, e))
   variable_formed turning at (Some (meaning.Array n kind)) h none = absurd (let e = ap length none in omega (arith, e))
   variable_formed turning at (Some (meaning.Task t)) h none = absurd (let e = ap length none in omega (arith, e))
-
-  all_append : {A : Type 0} (P : A → Type 0) (xs ys : List A) → AllByRecursion P xs → AllByRecursion P ys → AllByRecursion P (xs ++ ys)
-  all_append P [] ys h k = k
-  all_append P (x ∷ xs) ys h k = (h.0, all_append P xs ys h.1 k)
 
   mutual
     -- a statement without a fault
