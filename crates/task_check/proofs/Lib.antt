@@ -11,3 +11,7 @@ pub mod ProgramLemmas
 pub mod SampleLemmas
 pub mod SizeLemmas
 pub mod StatementLemmas
+pub mod WellFormed
+pub mod WellFormedCounts
+pub mod WellFormedForms
+pub mod WellFormedNames

@@ -1,6 +1,7 @@
 //! The check of a whole program.
 ghost use Rattle.std.specs.Prelude.{◌≡◌, ◌≢◌, Some, IfOk, IfErr};
 ghost use Rattle.task_ast.specs.Readable.{IsReadable};
+ghost use Rattle.task_ast.specs.WellFormed.{IsWellFormed};
 ghost use Rattle.task_check.specs.CheckedForm.{core_of};
 ghost use Rattle.task_check.specs.Faults.{Accepted, first_fault};
 
@@ -19,6 +20,7 @@ pub fn check(alloc: Global, p: &Program) -> Result<Core, CheckError>
     requires readable { IsReadable p.now }
     ensures accepted { IfOk result (λ c. (Accepted p.now) × (c ≡ core_of p.now)) }
     ensures refused { IfErr result (λ e. e ≢ CheckError.NoMemory → first_fault p.now ≡ Some e) }
+    ensures well_formed { IfOk result IsWellFormed }
 {
     let mut names = declare_arrays(alloc, p.decls.as_slice())?;
     declare_tasks(&mut names, p.tasks.as_slice())?;

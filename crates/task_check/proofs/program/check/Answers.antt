@@ -1,6 +1,9 @@
+use Rattle.std.proofs.Common.{sym, subst}
 use Rattle.std.proofs.lemmas.Result.{err_from_is_err_and}
+use Rattle.task_ast.specs.WellFormed.{IsWellFormed}
 use Rattle.task_check.specs.Table.{meanings}
 use Rattle.task_check.proofs.ProgramLemmas.{table_is, tasks_refused, all_accepted, core_is}
+use Rattle.task_check.proofs.WellFormed.{accepted_is_well_formed}
 use Rattle.task_check.proofs.program.check.Goals as goal
 
 pub returns-in_err-tasks-clause-refused : goal.returns-in_err-tasks-clause-refused
@@ -15,3 +18,8 @@ returns-clause-accepted c =
       all_accepted c.args.p.now _ _ _ c.as_slice.ensures c.as_slice-3.ensures names _ c.len.ensures c.in_ok-names.ensures.0 c.in_ok-tasks.ensures.0,
       core_is c.args.p.now _ _ _ c.as_slice.ensures c.as_slice-3.ensures names _ c.len.ensures _ _ _ _ _ c.as_slice-4.ensures c.in_ok-arrays.ensures c.in_ok-tasks.ensures.1 c.new.ensures c.new-2.ensures,
     )
+
+pub returns-clause-well_formed : goal.returns-clause-well_formed
+returns-clause-well_formed c =
+    let h = returns-clause-accepted c in
+    subst IsWellFormed (sym h.1) (accepted_is_well_formed c.args.p.now c.requires.readable h.0)
