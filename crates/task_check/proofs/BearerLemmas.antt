@@ -1,25 +1,33 @@
 -- A task's name is one of an earlier declaration or task exactly where its first bearer is another.
-use Rattle.std.proofs.Common.{◌≡◌, ℕ, ◌+◌, ◌<◌, ◌==◌, Bool, true, false, ◌||◌, List, [], ◌∷◌, ◌++◌, map, Option, Some, None, is_some, IfSome, refl, sym, ap, ◌∙◌, arith, if◌then◌else◌, bytes_eq, append_assoc}
+use Rattle.std.proofs.Common.{◌≡◌, ℕ, ◌+◌, ◌<◌, ◌==◌, Bool, true, false, ◌||◌, List, [], ◌∷◌, ◌++◌, length, map, sum_by, Option, Some, None, is_some, IfSome, refl, sym, ap, ◌∙◌, arith, if◌then◌else◌, bytes_eq, append_assoc, length-append}
 use Rattle.std.specs.List.{AllByRecursion, list_any}
 use Rattle.std.specs.Cmp.Lexicographic.{bytes_decides}
-use Rattle.std.proofs.lemmas.List.{map-append}
+use Rattle.std.proofs.lemmas.List.{map-append, length-map}
+use Rattle.std.proofs.lemmas.List.Sums.{sum_by_push}
 use Rattle.ease_base.specs.declared.place.Pos.{Pos}
 use Rattle.task_ast.specs.declared.tree.Decl.{Decl}
+use Rattle.task_ast.specs.declared.tree.Decl.TheVariants as decl
 use Rattle.task_ast.specs.declared.tree.Task.{Task}
 use Rattle.task_ast.specs.declared.tree.Program.{Program}
+use Rattle.task_check.specs.declared.error.CheckError.{CheckError}
 use Rattle.task_check.specs.declared.error.CheckError.TheVariants.{TwiceNamed}
+use Rattle.task_check.specs.declared.error.Limit.TheVariants.{Nodes}
 use Rattle.task_check.specs.declared.names.Meaning.{Meaning}
 use Rattle.task_check.specs.declared.names.Meaning.TheVariants as meaning
-use Rattle.task_check.specs.Names.{Declared, Meanings, or_else, look_up, decl_name, declared_arrays, declared_tasks, names_of}
-use Rattle.task_check.specs.Faults.{twice_named, inner_faults, tasks_faults}
-use Rattle.task_check.specs.Bearers.{other_bearer, numbered_faults}
+use Rattle.task_check.specs.Names.{Declared, Meanings, or_else, look_up, decl_text, decl_meaning, task_text, declared_arrays, declared_tasks, names_of}
+use Rattle.task_check.specs.Refusals.{twice_named}
+use Rattle.task_check.specs.Limits.{passes, task_limit, name_limit, bytes_limit, node_limit}
+use Rattle.task_check.specs.Nodes.{nodes_of_task}
+use Rattle.task_check.specs.Faults.{inner_faults, tasks_faults}
+use Rattle.task_check.specs.Bearers.{other_bearer}
+use Rattle.task_check.specs.Counted.{tasks_at}
 use Rattle.task_check.proofs.NameLemmas.{look_up-append}
 use Rattle.task_check.proofs.MeaningLemmas.{all-append, found_holds}
 
 -- a task among these has a number below n
 abbrev pub IsBelow : ℕ → Meaning → Type 0
-IsBelow n (meaning.Scalar a) = Unit {0}
 IsBelow n (meaning.Task t) = t < n
+IsBelow n _ = Unit {0}
 
 -- the declared texts
 abbrev pub texts_of : List Declared → List (List ℕ)
@@ -43,7 +51,8 @@ other_number t n h = grind arith
 -- the first bearer among earlier names and this task decides
 by_bearer : (at : Pos) (n : ℕ) (o : Option Meaning) → IfSome o (IsBelow n) → other_bearer at n (or_else o (Some (meaning.Task n))) ≡ (if is_some o then TwiceNamed at ∷ [] else [])
 by_bearer at n None h = ap (λ b. if b then [] else TwiceNamed at ∷ []) (same_number n)
-by_bearer at n (Some (meaning.Scalar a)) h = refl
+by_bearer at n (Some (meaning.Scalar a kind)) h = refl
+by_bearer at n (Some (meaning.Array a kind)) h = refl
 by_bearer at n (Some (meaning.Task t)) h = ap (λ b. if b then [] else TwiceNamed at ∷ []) (other_number t n h)
 
 still_below : (n : ℕ) (ds : List Declared) → AllByRecursion (λ d. IsBelow n d.1) ds → AllByRecursion (λ d. IsBelow (n + 1) d.1) ds
@@ -51,50 +60,89 @@ still_below n [] h = tt
 still_below n (d ∷ ds) h = (more d.1 h.0, still_below n ds h.1)
   where
     more : (m : Meaning) → IsBelow n m → IsBelow (n + 1) m
-    more (meaning.Scalar a) k = tt
+    more (meaning.Scalar a kind) k = tt
+    more (meaning.Array a kind) k = tt
     more (meaning.Task t) k = omega arith
 
 -- a task as a declared name
 abbrev named : Task → ℕ → Declared
 named t n = (t.name.text, meaning.Task n)
 
--- the faults of numbered tasks are those behind earlier names
-pub numbered_is : (names : Meanings) (earlier : List Declared) (n : ℕ) (ts : List Task) → AllByRecursion (λ d. IsBelow n d.1) earlier
-    → names ≡ look_up (earlier ++ declared_tasks n ts) → numbered_faults names n ts ≡ tasks_faults names (texts_of earlier) ts
-numbered_is names earlier n [] below is = refl
-numbered_is names earlier n (t ∷ ts) below is = λ i. name i ++ inner_faults names t ++ (numbered_is names (earlier ++ named t n ∷ []) (n + 1) ts all_below longer ∙ texts) i
+-- the first of six parts stands before the other five
+front_out : (a b c d e f : List CheckError) → (a ++ b ++ c ++ d) ++ e ++ f ≡ a ++ (b ++ c ++ d ++ e ++ f)
+front_out [] b c d e f = refl
+front_out (x ∷ a) b c d e f = ap (λ (l : List CheckError). x ∷ l) (front_out a b c d e f)
+
+-- the faults of tasks by counts are those behind the tasks before them
+pub counted_is : (names : Meanings) (texts : List (List ℕ)) (earlier : List Declared) (before : List Task) (number nodes : ℕ) (ts : List Task)
+    → number ≡ length before → nodes ≡ sum_by nodes_of_task before → texts_of earlier ≡ texts ++ map task_text before
+    → AllByRecursion (λ d. IsBelow (number + 1) d.1) earlier → names ≡ look_up (earlier ++ declared_tasks (number + 1) ts)
+    → tasks_at names (length texts) number nodes ts ≡ tasks_faults names texts before ts
+counted_is names texts earlier before number nodes [] at_number at_nodes at_texts below is = refl
+counted_is names texts earlier before number nodes (t ∷ ts) at_number at_nodes at_texts below is =
+    (λ i. ((name i ++ task_limit t.name.at (at_number i + 1) ++ name_limit t.name.at (sum i) ++ bytes_limit t.name) ++ inner_faults names t ++ passes Nodes 32768 t.close (at_nodes i + nodes_of_task t))
+    ++ counted_is names texts (earlier ++ named t (number + 1) ∷ []) (before ++ t ∷ []) (number + 1) (nodes + nodes_of_task t) ts more_tasks more_nodes more_texts all_below longer i)
+    ∙ ap (λ (l : List CheckError). l ++ tasks_faults names texts (before ++ t ∷ []) ts)
+    (front_out (twice_named (texts ++ map task_text before) t.name) (task_limit t.name.at (length before + 1)) (name_limit t.name.at (length texts + length before + 1)) (bytes_limit t.name) (inner_faults names t) (node_limit before t))
   where
-    found : names t.name.text ≡ or_else (look_up earlier t.name.text) (Some (meaning.Task n))
+    sum : length texts + (number + 1) ≡ length texts + length before + 1
+    sum = omega (arith, at_number)
+
+    found : names t.name.text ≡ or_else (look_up earlier t.name.text) (Some (meaning.Task (number + 1)))
     found =
         ap (λ (f : Meanings). f t.name.text) is
-        ∙ look_up-append earlier (named t n ∷ declared_tasks (n + 1) ts) t.name.text
-        ∙ ap (λ b. or_else (look_up earlier t.name.text) (if b then Some (meaning.Task n) else look_up (declared_tasks (n + 1) ts) t.name.text)) ((bytes_decides t.name.text t.name.text).1 refl)
+        ∙ look_up-append earlier (named t (number + 1) ∷ declared_tasks (number + 1 + 1) ts) t.name.text
+        ∙ ap (λ b. or_else (look_up earlier t.name.text) (if b then Some (meaning.Task (number + 1)) else look_up (declared_tasks (number + 1 + 1) ts) t.name.text)) ((bytes_decides t.name.text t.name.text).1 refl)
 
-    name : other_bearer t.name.at n (names t.name.text) ≡ twice_named (texts_of earlier) t.name
+    name : other_bearer t.name.at (number + 1) (names t.name.text) ≡ twice_named (texts ++ map task_text before) t.name
     name =
-        ap (other_bearer t.name.at n) found
-        ∙ by_bearer t.name.at n (look_up earlier t.name.text) (found_holds (IsBelow n) earlier below t.name.text)
+        ap (other_bearer t.name.at (number + 1)) found
+        ∙ by_bearer t.name.at (number + 1) (look_up earlier t.name.text) (found_holds (IsBelow (number + 1)) earlier below t.name.text)
         ∙ ap (λ b. if b then TwiceNamed t.name.at ∷ [] else []) (sym (among earlier t.name.text))
+        ∙ ap (λ (l : List (List ℕ)). twice_named l t.name) at_texts
 
-    all_below : AllByRecursion (λ d. IsBelow (n + 1) d.1) (earlier ++ named t n ∷ [])
-    all_below = let P : Declared → Type 0 = λ d. IsBelow (n + 1) d.1 in all-append P earlier (named t n ∷ []) (still_below n earlier below) (omega arith, tt)
+    more_tasks : number + 1 ≡ length (before ++ t ∷ [])
+    more_tasks = omega (arith, at_number, length-append before (t ∷ []))
 
-    longer : names ≡ look_up ((earlier ++ named t n ∷ []) ++ declared_tasks (n + 1) ts)
-    longer = is ∙ ap look_up (sym (append_assoc earlier (named t n ∷ []) (declared_tasks (n + 1) ts)))
+    more_nodes : nodes + nodes_of_task t ≡ sum_by nodes_of_task (before ++ t ∷ [])
+    more_nodes = ap (λ (n : ℕ). n + nodes_of_task t) at_nodes ∙ sym (sum_by_push nodes_of_task before t)
 
-    texts : tasks_faults names (texts_of (earlier ++ named t n ∷ [])) ts ≡ tasks_faults names (texts_of earlier ++ t.name.text ∷ []) ts
-    texts = ap (λ (l : List (List ℕ)). tasks_faults names l ts) (map-append (λ d. d.0) earlier (named t n ∷ []))
+    more_texts : texts_of (earlier ++ named t (number + 1) ∷ []) ≡ texts ++ map task_text (before ++ t ∷ [])
+    more_texts =
+        map-append (λ d. d.0) earlier (named t (number + 1) ∷ [])
+        ∙ ap (λ (l : List (List ℕ)). l ++ t.name.text ∷ []) at_texts
+        ∙ append_assoc texts (map task_text before) (t.name.text ∷ [])
+        ∙ ap (λ (l : List (List ℕ)). texts ++ l) (sym (map-append task_text before (t ∷ [])))
 
-scalars_below : (n k : ℕ) (ds : List Decl) → AllByRecursion (λ d. IsBelow n d.1) (declared_arrays k ds)
-scalars_below n k [] = tt
-scalars_below n k (d ∷ ds) = (tt, scalars_below n (k + 1) ds)
+    all_below : AllByRecursion (λ d. IsBelow (number + 1 + 1) d.1) (earlier ++ named t (number + 1) ∷ [])
+    all_below =
+        let P : Declared → Type 0 = λ d. IsBelow (number + 1 + 1) d.1 in
+        all-append P earlier (named t (number + 1) ∷ []) (still_below (number + 1) earlier below) (omega arith, tt)
 
-texts_declared : (k : ℕ) (ds : List Decl) → texts_of (declared_arrays k ds) ≡ map (λ d. (decl_name d).text) ds
+    longer : names ≡ look_up ((earlier ++ named t (number + 1) ∷ []) ++ declared_tasks (number + 1 + 1) ts)
+    longer = is ∙ ap look_up (sym (append_assoc earlier (named t (number + 1) ∷ []) (declared_tasks (number + 1 + 1) ts)))
+
+words_below : (n k : ℕ) (d : Decl) → IsBelow n (decl_meaning k d)
+words_below n k (decl.Words kind x None values) = tt
+words_below n k (decl.Words kind x (Some size) values) = tt
+words_below n k (decl.Pointer x) = tt
+words_below n k (decl.Peripheral x number) = tt
+
+decls_below : (n k : ℕ) (ds : List Decl) → AllByRecursion (λ d. IsBelow n d.1) (declared_arrays k ds)
+decls_below n k [] = tt
+decls_below n k (d ∷ ds) = (words_below n k d, decls_below n (k + 1) ds)
+
+texts_declared : (k : ℕ) (ds : List Decl) → texts_of (declared_arrays k ds) ≡ map decl_text ds
 texts_declared k [] = refl
-texts_declared k (d ∷ ds) = ap (λ (l : List (List ℕ)). (decl_name d).text ∷ l) (texts_declared (k + 1) ds)
+texts_declared k (d ∷ ds) = ap (λ (l : List (List ℕ)). decl_text d ∷ l) (texts_declared (k + 1) ds)
 
--- the faults of a program's tasks, told by first bearers
-pub task_faults_are : (p : Program) → numbered_faults (names_of p) 1 p.tasks ≡ tasks_faults (names_of p) (map (λ d. (decl_name d).text) p.decls) p.tasks
+append_none : {Y : Type 0} (l : List Y) → l ++ [] ≡ l
+append_none [] = refl
+append_none (z ∷ zs) = ap (λ t. z ∷ t) (append_none zs)
+
+-- the faults of a program's tasks, by counts
+pub task_faults_are : (p : Program) → tasks_at (names_of p) (length p.decls) 0 0 p.tasks ≡ tasks_faults (names_of p) (map decl_text p.decls) [] p.tasks
 task_faults_are p =
-    numbered_is (names_of p) (declared_arrays 0 p.decls) 1 p.tasks (scalars_below 1 0 p.decls) refl
-    ∙ ap (λ (l : List (List ℕ)). tasks_faults (names_of p) l p.tasks) (texts_declared 0 p.decls)
+    ap (λ (n : ℕ). tasks_at (names_of p) n 0 0 p.tasks) (sym (length-map p.decls decl_text))
+    ∙ counted_is (names_of p) (map decl_text p.decls) (declared_arrays 0 p.decls) [] 0 0 p.tasks refl refl
+    (texts_declared 0 p.decls ∙ sym (append_none (map decl_text p.decls))) (decls_below 1 0 p.decls) refl

@@ -1,5 +1,5 @@
 -- What is asked and answered of an expression, by its parts.
-use Rattle.std.proofs.Common.{◌≡◌, ◌≢◌, [], ◌++◌, Some, Result, refl, sym, ap, subst, ◌∙◌}
+use Rattle.std.proofs.Common.{◌≡◌, ◌≢◌, ℕ, [], ◌++◌, Some, Result, refl, sym, ap, subst, ◌∙◌}
 use Rattle.task_ast.specs.declared.tree.Name.{Name}
 use Rattle.task_ast.specs.declared.tree.Op1.{Op1}
 use Rattle.task_ast.specs.declared.tree.Op2.{Op2}
@@ -11,7 +11,7 @@ use Rattle.task_ast.specs.declared.core_form.CoreExpr.{CoreExpr}
 use Rattle.task_ast.specs.declared.core_form.CoreExpr.TheVariants as core_expr
 use Rattle.task_check.specs.declared.error.CheckError.{CheckError}
 use Rattle.task_check.specs.declared.error.CheckError.TheVariants.{NoMemory}
-use Rattle.task_check.specs.Names.{Meanings}
+use Rattle.task_check.specs.Names.{Meanings, array_number}
 use Rattle.task_check.specs.Faults.{expr_faults, indexed_faults, first}
 use Rattle.task_check.specs.CheckedForm.{core_expr}
 use Rattle.task_check.specs.Answers.{Answers}
@@ -28,12 +28,32 @@ answers_paren names e inner part r is same h =
     let P : Expr → Type 0 = λ x. ExprAnswers names x r in
     subst P (sym is) (let k : ExprAnswers names inner r = subst P same h in k)
 
--- an indexed name is refused before its index
-pub index_fault : (names : Meanings) (e : Expr) (x : Name) (i : Expr) (f : CheckError) → e ≡ Index x i → first (indexed_faults names x) ≡ Some f → first (expr_faults names e) ≡ Some f
+-- the faults of an indexed name are those of the name, then of its index
+pub faults_index : (names : Meanings) (x : Name) (i : Expr) → expr_faults names (Index x i) ≡ indexed_faults names x ++ expr_faults names i
 unfolding hidden-the_row-Expr-0 shape-the_row-Expr-0 hidden
-index_fault names e x i f is h =
-    let k : first (expr_faults names (Index x i)) ≡ Some f = first-front (indexed_faults names x) (expr_faults names i) f h in
-    ap (λ (y : Expr). first (expr_faults names y)) is ∙ k
+faults_index names x i = refl
+
+-- its checked form is the cell at its index
+pub core_index_is : (names : Meanings) (x : Name) (i : Expr) → core_expr names (Index x i) ≡ core_expr.Cell (array_number (names x.text)) (core_expr names i)
+unfolding hidden-the_row-Expr-0 shape-the_row-Expr-0 hidden
+core_index_is names x i = refl
+
+module _ (names : Meanings) (e : Expr) (x : Name) (i inner : Expr) (is : e ≡ Index x i) (same : inner ≡ i) where
+  cell_faults : expr_faults names e ≡ indexed_faults names x ++ expr_faults names inner
+  cell_faults = ap (expr_faults names) is ∙ faults_index names x i ∙ (λ j. indexed_faults names x ++ expr_faults names (sym same j))
+
+  -- an indexed name is refused before its index
+  pub name_fault : (f : CheckError) → (f ≢ NoMemory → first (indexed_faults names x) ≡ Some f) → f ≢ NoMemory → first (expr_faults names e) ≡ Some f
+  name_fault f h apart = ap first cell_faults ∙ first-front _ _ f (h apart)
+
+  -- a fault in the index comes where the name has none
+  pub index_fault : (f : CheckError) → indexed_faults names x ≡ [] → (f ≢ NoMemory → first (expr_faults names inner) ≡ Some f) → f ≢ NoMemory → first (expr_faults names e) ≡ Some f
+  index_fault f none h apart = ap first cell_faults ∙ first-behind _ _ f none (h apart)
+
+  -- where neither has a fault, it has none and its form is made of theirs
+  pub cell_made : (c : CoreExpr) (a : ℕ) (k : CoreExpr) → indexed_faults names x ≡ [] → expr_faults names inner ≡ [] → a ≡ array_number (names x.text) → k ≡ core_expr names inner → c ≡ core_expr.Cell a k → (expr_faults names e ≡ []) × (c ≡ core_expr names e)
+  cell_made c a k p q ais kis cis =
+      ((cell_faults ∙ none-append _ _ p q), (cis ∙ (λ j. core_expr.Cell (ais j) ((kis ∙ ap (core_expr names) same) j)) ∙ sym (ap (core_expr names) is ∙ core_index_is names x i)))
 
 -- the faults of a prefix form are those of its part
 pub faults_one : (names : Meanings) (op : Op1) (a : Expr) → expr_faults names (One op a) ≡ expr_faults names a

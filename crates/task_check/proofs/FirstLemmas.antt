@@ -1,7 +1,12 @@
 -- The first of faults that stand behind one another.
-use Rattle.std.proofs.Common.{◌≡◌, List, [], ◌∷◌, ◌++◌, Some, refl, ap, ◌∙◌}
+use Rattle.std.proofs.Common.{◌≡◌, ◌≢◌, List, [], ◌∷◌, ◌++◌, Some, refl, ap, ◌∙◌}
 use Rattle.task_check.specs.declared.error.CheckError.{CheckError}
+use Rattle.task_check.specs.declared.error.CheckError.TheVariants.{NoMemory}
 use Rattle.task_check.specs.Faults.{first}
+
+-- an error that isn't want of memory is the first of these faults
+abbrev pub IsFirst : CheckError → List CheckError → Type 0
+IsFirst e faults = e ≢ NoMemory → first faults ≡ Some e
 
 -- the first fault of the front is the first of all
 pub first-front : (xs ys : List CheckError) (e : CheckError) → first xs ≡ Some e → first (xs ++ ys) ≡ Some e

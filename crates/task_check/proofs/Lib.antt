@@ -1,9 +1,17 @@
 pub mod BearerLemmas
 pub mod DeclarationLemmas
+pub mod ExitLemmas
 pub mod ExpressionLemmas
 pub mod FirstLemmas
 pub mod ListLemmas
 pub mod MeaningLemmas
 pub mod NameLemmas
+pub mod NodeLemmas
 pub mod ProgramLemmas
+pub mod SampleLemmas
+pub mod SizeLemmas
+pub mod StatementLemmas
 pub mod WellFormed
+pub mod WellFormedCounts
+pub mod WellFormedForms
+pub mod WellFormedNames

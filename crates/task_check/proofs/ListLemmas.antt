@@ -1,11 +1,16 @@
 -- Lists that a loop has come through as far as a place.
-use Rattle.std.proofs.Common.{◌≡◌, ℕ, suc, ◌+◌, ◌<◌, List, [], ◌∷◌, ◌++◌, length, take, drop, get_or, Some, refl, sym, ap, subst, ◌∙◌, arith, drop-cons}
+use Rattle.std.proofs.Common.{◌≡◌, ℕ, suc, ◌+◌, ◌<◌, List, [], ◌∷◌, ◌++◌, length, take, drop, get_or, sum_by, Some, refl, sym, ap, subst, ◌∙◌, arith, drop-cons}
 use Rattle.std.proofs.lemmas.List.{take_more}
+use Rattle.std.proofs.lemmas.List.Sums.{sum_by_push}
 use Rattle.std.proofs.lemmas.Grind.{flat_map-append}
 use Rattle.std.specs.List.{flat_map, AllByRecursion}
 use Rattle.task_check.specs.declared.error.CheckError.{CheckError}
 use Rattle.task_check.specs.Faults.{first}
 use Rattle.task_check.proofs.FirstLemmas.{first-front}
+
+append_none : {Y : Type 0} (l : List Y) → l ++ [] ≡ l
+append_none [] = refl
+append_none (z ∷ zs) = ap (λ t. z ∷ t) (append_none zs)
 
 module _ {X : Type 0} (xs : List X) (i : ℕ) (x : X) (within : i < length xs) (is : x ≡ get_or xs i x) where
   -- what is left begins with the item at the place
@@ -20,14 +25,14 @@ module _ {X : Type 0} (xs : List X) (i : ℕ) (x : X) (within : i < length xs) (
   pub all_split : (P : X → Type 0) → AllByRecursion P (drop i xs) → P x × AllByRecursion P (drop (i + 1) xs)
   all_split P h = subst (AllByRecursion P) rest_is h
 
+  -- one more item in a sum
+  pub sum_more : (f : X → ℕ) (sum new : ℕ) → sum ≡ sum_by f (take i xs) → new ≡ sum + f x → new ≡ sum_by f (take (i + 1) xs)
+  sum_more f sum new at_sum at_new = at_new ∙ ap (λ (n : ℕ). n + f x) at_sum ∙ sym (ap (sum_by f) front_is ∙ sum_by_push f (take i xs) x)
+
   -- one more made item
   pub made_push : {Y : Type 0} (g : X → List Y) (done : List Y) (y : Y) → done ≡ flat_map g (take i xs) → g x ≡ y ∷ [] → done ++ y ∷ [] ≡ flat_map g (take (i + 1) xs)
   made_push g done y at_done made =
       (λ j. at_done j ++ sym made j) ∙ sym (ap (flat_map g) front_is ∙ flat_map-append g (take i xs) (x ∷ []) ∙ ap (λ l. flat_map g (take i xs) ++ l) (append_none (g x)))
-    where
-      append_none : {Y : Type 0} (l : List Y) → l ++ [] ≡ l
-      append_none [] = refl
-      append_none (z ∷ zs) = ap (λ t. z ∷ t) (append_none zs)
 
   module _ (f : X → List CheckError) (left : flat_map f xs ≡ flat_map f (drop i xs)) where
     faults_are : flat_map f xs ≡ f x ++ flat_map f (drop (i + 1) xs)

@@ -7,7 +7,7 @@ use Rattle.task_ast.specs.declared.tree.Decl.{Decl}
 use Rattle.task_ast.specs.declared.tree.Task.{Task}
 use Rattle.task_check.specs.declared.names.Meaning.{Meaning}
 use Rattle.task_check.specs.declared.names.Meaning.TheVariants as meaning
-use Rattle.task_check.specs.Names.{Declared, Meanings, or_else, look_up, extended, decl_name, declared_arrays, declared_tasks}
+use Rattle.task_check.specs.Names.{Declared, Meanings, or_else, look_up, extended, decl_name, decl_text, decl_meaning, declared_arrays, declared_tasks}
 
 -- of two lists behind one another the first that has the name decides
 pub look_up-append : (ds es : List Declared) (q : List ℕ) → look_up (ds ++ es) q ≡ or_else (look_up ds q) (look_up es q)
@@ -37,9 +37,9 @@ pub extended-none : (names : Meanings) → extended names [] ≡ names
 extended-none names = λ i q. or_else_none (names q) i
 
 -- one more declaration
-pub declared_arrays-push : (n k : ℕ) (xs : List Decl) (d : Decl) → n + length xs ≡ k → declared_arrays n (xs ++ d ∷ []) ≡ declared_arrays n xs ++ ((decl_name d).text, meaning.Scalar k) ∷ []
-declared_arrays-push n k [] d e = let same : n ≡ k = omega arith in ap (λ (j : ℕ). ((decl_name d).text, meaning.Scalar j) ∷ []) same
-declared_arrays-push n k (x ∷ xs) d e = ap (λ (ds : List Declared). ((decl_name x).text, meaning.Scalar n) ∷ ds) (declared_arrays-push (n + 1) k xs d (omega arith))
+pub declared_arrays-push : (n k : ℕ) (xs : List Decl) (d : Decl) → n + length xs ≡ k → declared_arrays n (xs ++ d ∷ []) ≡ declared_arrays n xs ++ (decl_text d, decl_meaning k d) ∷ []
+declared_arrays-push n k [] d e = let same : n ≡ k = omega arith in ap (λ (j : ℕ). (decl_text d, decl_meaning j d) ∷ []) same
+declared_arrays-push n k (x ∷ xs) d e = ap (λ (ds : List Declared). (decl_text x, decl_meaning n x) ∷ ds) (declared_arrays-push (n + 1) k xs d (omega arith))
 
 -- one more task
 pub declared_tasks-push : (n k : ℕ) (xs : List Task) (t : Task) → n + length xs ≡ k → declared_tasks n (xs ++ t ∷ []) ≡ declared_tasks n xs ++ (t.name.text, meaning.Task k) ∷ []
@@ -47,11 +47,11 @@ declared_tasks-push n k [] t e = let same : n ≡ k = omega arith in ap (λ (j :
 declared_tasks-push n k (x ∷ xs) t e = ap (λ (ds : List Declared). (x.name.text, meaning.Task n) ∷ ds) (declared_tasks-push (n + 1) k xs t (omega arith))
 
 -- a text is among the names of declarations exactly where it is found
-pub among_declared : (n : ℕ) (xs : List Decl) (q : List ℕ) → list_any (bytes_eq q) (map (λ d. (decl_name d).text) xs) ≡ is_some (look_up (declared_arrays n xs) q)
+pub among_declared : (n : ℕ) (xs : List Decl) (q : List ℕ) → list_any (bytes_eq q) (map decl_text xs) ≡ is_some (look_up (declared_arrays n xs) q)
 among_declared n [] q = refl
 among_declared n (x ∷ xs) q = by (bytes_eq q (decl_name x).text) (among_declared (n + 1) xs q)
   where
-    by : (b : Bool) → list_any (bytes_eq q) (map (λ d. (decl_name d).text) xs) ≡ is_some (look_up (declared_arrays (n + 1) xs) q) → (b || list_any (bytes_eq q) (map (λ d. (decl_name d).text) xs)) ≡ is_some (if b then Some (meaning.Scalar n) else look_up (declared_arrays (n + 1) xs) q)
+    by : (b : Bool) → list_any (bytes_eq q) (map decl_text xs) ≡ is_some (look_up (declared_arrays (n + 1) xs) q) → (b || list_any (bytes_eq q) (map decl_text xs)) ≡ is_some (if b then Some (decl_meaning n x) else look_up (declared_arrays (n + 1) xs) q)
     by true h = refl
     by false h = h
 

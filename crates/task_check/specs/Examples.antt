@@ -1,8 +1,8 @@
 -- Small programs with their names, faults and checked forms, worked out by hand.
-use Rattle.std.specs.Prelude.{◌≡◌, ℕ, List, [], ◌∷◌, Some, None, refl}
+use Rattle.std.specs.Prelude.{◌≡◌, ℕ, ◌+◌, map, List, [], ◌∷◌, Some, None, refl}
 use Rattle.ease_base.specs.declared.place.Pos.{Pos}
 use Rattle.task_ast.specs.declared.tree.Op2.TheVariants.{Add}
-use Rattle.task_ast.specs.declared.tree.Kind.TheVariants.{Nv}
+use Rattle.task_ast.specs.declared.tree.Kind.TheVariants.{Nv, Const, Vol}
 use Rattle.task_ast.specs.declared.tree.Name.{Name}
 use Rattle.task_ast.specs.declared.tree.Expr.{Expr}
 use Rattle.task_ast.specs.declared.tree.Expr.TheVariants as expr
@@ -10,8 +10,12 @@ use Rattle.task_ast.specs.declared.tree.Expr.TheBlock.{hidden-the_row-Expr-0, sh
 use Rattle.task_ast.specs.declared.tree.Target.TheVariants as target
 use Rattle.task_ast.specs.declared.tree.Stmt.{Stmt}
 use Rattle.task_ast.specs.declared.tree.Stmt.TheVariants as stmt
+use Rattle.task_ast.specs.declared.tree.Stmt.TheBlock.{hidden-the_row-Stmt-0, shape-the_row-Stmt-0}
 use Rattle.task_ast.specs.declared.tree.Exit.{Exit}
 use Rattle.task_ast.specs.declared.tree.Exit.TheVariants as exit
+use Rattle.task_ast.specs.declared.tree.Exit.TheBlock.{hidden-the_row-Exit-0, shape-the_row-Exit-0}
+use Rattle.task_ast.specs.declared.tree.Op1.TheVariants.{Neg}
+use Rattle.task_check.specs.declared.error.CheckError.{CheckError}
 use Rattle.task_ast.specs.declared.tree.Decl.{Decl}
 use Rattle.task_ast.specs.declared.tree.Decl.TheVariants as decl
 use Rattle.task_ast.specs.declared.tree.Task.{Task}
@@ -20,19 +24,24 @@ use Rattle.task_ast.specs.declared.core_form.CoreExpr.TheVariants as core
 use Rattle.task_ast.specs.declared.core_form.CoreStmt.TheVariants as core_stmt
 use Rattle.task_ast.specs.declared.core_form.CoreExit.TheVariants as core_exit
 use denote.Hole.Carrier.{hidden}
-use Rattle.task_check.specs.declared.error.CheckError.TheVariants.{UnknownName, TwiceNamed, WrongKind}
+use Rattle.task_check.specs.declared.error.CheckError.TheVariants.{UnknownName, TwiceNamed, WrongKind, ConstWritten, TooMany, LimitReached}
+use Rattle.task_check.specs.declared.error.Limit.TheVariants.{NvWords, VolWords, Length, Turns, Loops}
 use Rattle.task_check.specs.declared.names.Meaning.TheVariants as meaning
 use Rattle.task_check.specs.Names.{declared}
 use Rattle.task_check.specs.Faults.{faults, first_fault, Accepted}
 use Rattle.task_check.specs.CheckedForm.{core_of}
+use Rattle.task_check.specs.Nodes.{nodes_of_task}
 
 -- a place in the first line
 abbrev at : ℕ → Pos
 at column = record { line = 1; column = column }
 
--- the letters a, t, x and y as names
+-- the letters a, i, t, x and y as names
 abbrev a : ℕ → Name
 a column = record { text = 97 ∷ []; at = at column }
+
+abbrev i : ℕ → Name
+i column = record { text = 105 ∷ []; at = at column }
 
 abbrev t : ℕ → Name
 t column = record { text = 116 ∷ []; at = at column }
@@ -63,7 +72,7 @@ counter = record {
 }
 
 -- x is the array 0, a is the task 1
-counter_names : declared counter ≡ (120 ∷ [], meaning.Scalar 0) ∷ (97 ∷ [], meaning.Task 1) ∷ []
+counter_names : declared counter ≡ (120 ∷ [], meaning.Scalar 0 Nv) ∷ (97 ∷ [], meaning.Task 1) ∷ []
 counter_names = refl
 
 counter_accepted : Accepted counter
@@ -123,3 +132,99 @@ later_task = refl
 first_bearer : faults (record { decls = word (t 9) ∷ []; tasks = task (t 17) (assign (t 21) (expr.Read (t 25)) ∷ []) (exit.Next (t 33)) ∷ [] }) ≡ TwiceNamed (at 17) ∷ WrongKind (at 33) ∷ []
 unfolding faults
 first_bearer = refl
+
+-- `word i; const nv word c = 1;` with c spelled y, and arrays `nv word a[2]` and `word x[3]`
+abbrev decls_of_four : List Decl
+decls_of_four = decl.Words Vol (i 1) None [] ∷ decl.Words Const (y 2) None (1 ∷ []) ∷ decl.Words Nv (a 3) (Some 2) [] ∷ decl.Words Vol (x 4) (Some 3) (7 ∷ []) ∷ []
+
+-- the faults of one task t with this body behind these declarations
+abbrev faults_in : List Decl → List Stmt → List CheckError
+faults_in ds body = faults (record { decls = ds; tasks = task (t 5) body exit.Stop ∷ [] })
+
+-- `word i; .. nv word a[2]; ..`: the names tell scalars from arrays, and their kinds
+four_names : declared (record { decls = decls_of_four; tasks = [] })
+    ≡ (105 ∷ [], meaning.Scalar 0 Vol) ∷ (121 ∷ [], meaning.Scalar 1 Const) ∷ (97 ∷ [], meaning.Array 2 Nv) ∷ (120 ∷ [], meaning.Array 3 Vol) ∷ []
+four_names = refl
+
+-- the arrays' words: a declared value, and 0 for the further places
+four_arrays : (core_of (record { decls = decls_of_four; tasks = [] })).arrays
+    ≡ record { name = 105 ∷ []; kind = Vol; first = 0 ∷ [] } ∷ record { name = 121 ∷ []; kind = Const; first = 1 ∷ [] }
+    ∷ record { name = 97 ∷ []; kind = Nv; first = 0 ∷ 0 ∷ [] } ∷ record { name = 120 ∷ []; kind = Vol; first = 7 ∷ 0 ∷ 0 ∷ [] } ∷ []
+unfolding core_of
+four_arrays = refl
+
+-- `y = a; a = y;`: a bare array is of the wrong kind, also as a target, and y is constant
+bare_array : faults_in decls_of_four (assign (y 10) (expr.Read (a 11)) ∷ assign (a 12) (expr.Read (y 13)) ∷ []) ≡ ConstWritten (at 10) ∷ WrongKind (at 11) ∷ WrongKind (at 12) ∷ []
+unfolding faults hidden-the_row-Expr-0 shape-the_row-Expr-0 hidden
+bare_array = refl
+
+-- `y[i] = i[0];`: an indexed scalar is of the wrong kind, and at the target that comes before its being constant
+indexed_scalar : faults_in decls_of_four (stmt.Assign (target.Element (y 10) (expr.Read (i 11))) (expr.Index (i 12) (expr.Number 0 (at 13))) ∷ []) ≡ WrongKind (at 10) ∷ ConstWritten (at 10) ∷ WrongKind (at 12) ∷ []
+unfolding faults hidden-the_row-Expr-0 shape-the_row-Expr-0 hidden
+indexed_scalar = refl
+
+-- `for (VARIABLE = 0; VARIABLE < TURNS; VARIABLE++) { BODY }` at a column: the word, the variable and the turns
+abbrev for : ℕ → Name → ℕ → List Stmt → Stmt
+for column variable turns body = stmt.For variable turns (at (column + 2)) body (at column)
+
+-- `for (i ..) { i = 1; for (i ..) { } } i = 1;`: inside its loop a variable is neither assigned nor a variable again
+variable_inside : faults_in decls_of_four (for 10 (i 11) 4 (assign (i 13) (expr.Number 1 (at 14)) ∷ for 15 (i 16) 4 [] ∷ []) ∷ assign (i 18) (expr.Number 1 (at 19)) ∷ []) ≡ WrongKind (at 13) ∷ WrongKind (at 16) ∷ []
+unfolding faults hidden-the_row-Stmt-0 shape-the_row-Stmt-0 hidden
+variable_inside = refl
+
+-- `for (x ..) { } for (y ..) { } for (t ..) { }`: a variable is a volatile scalar, and no array, constant or task
+wrong_variables : faults_in decls_of_four (for 10 (x 11) 4 [] ∷ for 13 (y 14) 4 [] ∷ for 16 (t 17) 4 [] ∷ []) ≡ WrongKind (at 11) ∷ WrongKind (at 14) ∷ WrongKind (at 17) ∷ []
+unfolding faults hidden-the_row-Stmt-0 shape-the_row-Stmt-0 hidden
+wrong_variables = refl
+
+-- 65,535 turns are allowed and 65,536 aren't
+turns_pass : faults_in decls_of_four (for 10 (i 11) 65535 [] ∷ for 13 (i 14) 65536 [] ∷ []) ≡ LimitReached (at 15) Turns 65536 ∷ []
+unfolding faults hidden-the_row-Stmt-0 shape-the_row-Stmt-0 hidden
+turns_pass = refl
+
+-- volatile scalars named by one letter each
+abbrev letters : List ℕ → List Decl
+letters bytes = map (λ b. decl.Words Vol (record { text = b ∷ []; at = at b }) None []) bytes
+
+abbrev letter : ℕ → Name
+letter b = record { text = b ∷ []; at = at b }
+
+-- a loop inside three loops is the fourth
+loops_pass : faults_in (letters (101 ∷ 102 ∷ 103 ∷ 104 ∷ [])) (for 10 (letter 101) 2 (for 20 (letter 102) 2 (for 30 (letter 103) 2 (for 40 (letter 104) 2 [] ∷ []) ∷ []) ∷ []) ∷ []) ≡ LimitReached (at 40) Loops 4 ∷ []
+unfolding faults hidden-the_row-Stmt-0 shape-the_row-Stmt-0 hidden
+loops_pass = refl
+
+-- `nv word a[2047]; const nv word y = 1; nv word x; task t { STOP; }`: constants are in the sum, which passes at x
+nv_words_pass : faults_in (decl.Words Nv (a 1) (Some 2047) [] ∷ decl.Words Const (y 2) None (1 ∷ []) ∷ word (x 3) ∷ []) [] ≡ LimitReached (at 3) NvWords 2049 ∷ []
+unfolding faults
+nv_words_pass = refl
+
+-- `word a[2049]; nv word x[2048]; task t { STOP; }`: volatile words have a sum of their own
+vol_words_pass : first_fault (record { decls = decl.Words Vol (a 1) (Some 2049) [] ∷ decl.Words Nv (x 2) (Some 2048) [] ∷ []; tasks = task (t 5) [] exit.Stop ∷ [] }) ≡ Some (LimitReached (at 1) VolWords 2049)
+unfolding faults
+vol_words_pass = refl
+
+-- `nv word x[0] = 1; word y = {1, 2}; word a[0];`: too many values, and an array without a word
+lengths : faults_in (decl.Words Nv (x 1) (Some 0) (1 ∷ []) ∷ decl.Words Vol (y 2) None (1 ∷ 2 ∷ []) ∷ decl.Words Vol (a 3) (Some 0) [] ∷ []) []
+    ≡ TooMany (at 1) ∷ LimitReached (at 1) Length 0 ∷ TooMany (at 2) ∷ LimitReached (at 3) Length 0 ∷ []
+unfolding faults
+lengths = refl
+
+-- `a[i] = (y); if (1) { x = -i; } for (i ..) { } if (1) STOP; else STOP;`: 4, 6, 1 and 4 nodes
+nodes_counted : nodes_of_task (task (t 5) (
+    stmt.Assign (target.Element (a 10) (expr.Read (i 11))) (expr.Paren (expr.Read (y 12)))
+    ∷ stmt.If (expr.Number 1 (at 13)) (assign (x 14) (expr.One Neg (expr.Read (i 15))) ∷ []) []
+    ∷ for 16 (i 17) 4 [] ∷ []) (exit.Choose (expr.Number 1 (at 20)) exit.Stop exit.Stop)) ≡ 15
+unfolding hidden-the_row-Expr-0 shape-the_row-Expr-0 hidden-the_row-Stmt-0 shape-the_row-Stmt-0 hidden-the_row-Exit-0 shape-the_row-Exit-0 hidden
+nodes_counted = refl
+
+-- `if (y) { for (i ..) { x[i] = y; } }` and its checked form
+loop_core : (core_of (record { decls = decls_of_four; tasks = task (t 5) (stmt.If (expr.Read (y 10)) (for 11 (i 12) 3 (stmt.Assign (target.Element (x 14) (expr.Read (i 15))) (expr.Paren (expr.Read (y 16))) ∷ []) ∷ []) [] ∷ []) exit.Stop ∷ [] })).tasks
+    ≡ record {
+      name = 116 ∷ [];
+      body = core_stmt.If (core.Cell 1 (core.Number 0)) (core_stmt.Loop 0 3 (core_stmt.Assign 3 (core.Cell 0 (core.Number 0)) (core.Cell 1 (core.Number 0)) ∷ []) ∷ []) [] ∷ [];
+      exit = core_exit.Stop;
+      sites = [];
+    } ∷ []
+unfolding core_of hidden-the_row-Expr-0 shape-the_row-Expr-0 hidden-the_row-Stmt-0 shape-the_row-Stmt-0 hidden
+loop_core = refl

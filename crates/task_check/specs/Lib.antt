@@ -1,8 +1,13 @@
 pub mod Answers
 pub mod Bearers
+pub mod Capped
 pub mod CheckedForm
+pub mod Counted
 pub mod Examples
 pub mod Faults
 pub mod Laws
+pub mod Limits
 pub mod Names
+pub mod Nodes
+pub mod Refusals
 pub mod Table

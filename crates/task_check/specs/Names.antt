@@ -1,5 +1,6 @@
 -- The names of a program, and what each of them stands for.
 use Rattle.std.specs.Prelude.{ℕ, ◌+◌, List, [], ◌∷◌, ◌++◌, Option, None, Some, if◌then◌else◌, bytes_eq}
+use Rattle.task_ast.specs.declared.tree.Kind.TheVariants.{Nv}
 use Rattle.task_ast.specs.declared.tree.Name.{Name}
 use Rattle.task_ast.specs.declared.tree.Decl.{Decl}
 use Rattle.task_ast.specs.declared.tree.Decl.TheVariants.{Words, Pointer, Peripheral}
@@ -36,15 +37,28 @@ decl_name (Words kind x size values) = x
 decl_name (Pointer x) = x
 decl_name (Peripheral x number) = x
 
--- declarations in order declare arrays with these numbers upward; each is a scalar today
+-- the texts of the names that declarations and tasks declare
+abbrev pub decl_text : Decl → List ℕ
+decl_text d = (decl_name d).text
+
+abbrev pub task_text : Task → List ℕ
+task_text t = t.name.text
+
+-- what the declaration of the array of this number declares: without brackets a scalar; today's are of words
+abbrev pub decl_meaning : ℕ → Decl → Meaning
+decl_meaning n (Words kind x None values) = meaning.Scalar n kind
+decl_meaning n (Words kind x (Some size) values) = meaning.Array n kind
+decl_meaning n _ = meaning.Scalar n Nv
+
+-- declarations in order declare arrays with these numbers upward
 abbrev pub declared_arrays : ℕ → List Decl → List Declared
 declared_arrays n [] = []
-declared_arrays n (d ∷ ds) = ((decl_name d).text, meaning.Scalar n) ∷ declared_arrays (n + 1) ds
+declared_arrays n (d ∷ ds) = (decl_text d, decl_meaning n d) ∷ declared_arrays (n + 1) ds
 
 -- tasks in order declare their names with these numbers upward
 abbrev pub declared_tasks : ℕ → List Task → List Declared
 declared_tasks n [] = []
-declared_tasks n (t ∷ ts) = (t.name.text, meaning.Task n) ∷ declared_tasks (n + 1) ts
+declared_tasks n (t ∷ ts) = (task_text t, meaning.Task n) ∷ declared_tasks (n + 1) ts
 
 -- the declared names in text order: arrays are numbered from 0, tasks from 1
 abbrev pub declared : Program → List Declared
@@ -53,3 +67,14 @@ declared p = declared_arrays 0 p.decls ++ declared_tasks 1 p.tasks
 -- what the names of a program stand for, in all its tasks
 abbrev pub names_of : Program → Meanings
 names_of p = look_up (declared p)
+
+-- the number of the array that a name stands for; 0 where it stands for none
+abbrev pub array_number : Option Meaning → ℕ
+array_number (Some (meaning.Scalar a kind)) = a
+array_number (Some (meaning.Array a kind)) = a
+array_number _ = 0
+
+-- the number of the task that a name stands for; 0 where it stands for none
+abbrev pub task_number : Option Meaning → ℕ
+task_number (Some (meaning.Task t)) = t
+task_number _ = 0

@@ -1,8 +1,9 @@
 //! Expressions: each name is looked up, from left to right.
-ghost use Rattle.std.specs.Prelude.{◌≡◌, IfOk, Some};
+ghost use Rattle.std.specs.Prelude.{◌≡◌, IfOk};
 ghost use Rattle.task_check.specs.Answers.{Answers};
-ghost use Rattle.task_check.specs.CheckedForm.{array_number, core_expr};
-ghost use Rattle.task_check.specs.Faults.{expr_faults, first, indexed_faults, scalar_faults};
+ghost use Rattle.task_check.specs.CheckedForm.{core_expr};
+ghost use Rattle.task_check.specs.Faults.{expr_faults, indexed_faults, scalar_faults};
+ghost use Rattle.task_check.specs.Names.{array_number};
 ghost use Rattle.task_check.specs.Table.{meanings};
 
 use crate::error::CheckError;
@@ -18,19 +19,27 @@ pub fn scalar(names: &Names, x: &Name) -> Result<u32, CheckError>
 {
     match names.find(x.text.as_slice()) {
         None => Err(CheckError::UnknownName(x.at)),
-        Some(Meaning::Task(_)) => Err(CheckError::WrongKind(x.at)),
-        Some(Meaning::Scalar(array)) => Ok(array),
+        Some(Meaning::Scalar(array, _)) => Ok(array),
+        Some(_) => Err(CheckError::WrongKind(x.at)),
     }
 }
 
-/// Why an indexed name is refused: no name is an array today.
-fn indexed(names: &Names, x: &Name) -> CheckError
-    ensures { first (indexed_faults (meanings names.now) x.now) ≡ Some result }
+/// The number of an array that is indexed.
+fn indexed(names: &Names, x: &Name) -> Result<u32, CheckError>
+    ensures { Answers (indexed_faults (meanings names.now) x.now)
+        (λ a. a ≡ array_number (meanings names.now x.now.text)) result }
 {
     match names.find(x.text.as_slice()) {
-        None => CheckError::UnknownName(x.at),
-        Some(_) => CheckError::WrongKind(x.at),
+        None => Err(CheckError::UnknownName(x.at)),
+        Some(Meaning::Array(array, _)) => Ok(array),
+        Some(_) => Err(CheckError::WrongKind(x.at)),
     }
+}
+
+fn cell(alloc: Global, array: u32, index: CoreExpr) -> Result<CoreExpr, NoMemory>
+    ensures { IfOk result (λ c. c ≡ CoreExpr.Cell array index) }
+{
+    Ok(CoreExpr::Cell(array, Boxed::new(alloc, index)?))
 }
 
 fn one(alloc: Global, op: Op1, inner: CoreExpr) -> Result<CoreExpr, NoMemory>
@@ -56,10 +65,13 @@ pub fn check_expr(alloc: Global, names: &Names, e: &Expr) -> Result<CoreExpr, Ch
         Expr::Number(n, _) => Ok(CoreExpr::Number(*n)),
         Expr::Read(x) => {
             let array = scalar(names, x)?;
-            let place = Boxed::new(alloc, CoreExpr::Number(0))?;
-            Ok(CoreExpr::Cell(array, place))
+            Ok(cell(alloc, array, CoreExpr::Number(0))?)
         }
-        Expr::Index(x, _) => Err(indexed(names, x)),
+        Expr::Index(x, index) => {
+            let array = indexed(names, x)?;
+            let index = check_expr(alloc, names, index.get())?;
+            Ok(cell(alloc, array, index)?)
+        }
         Expr::Paren(inner) => check_expr(alloc, names, inner.get()),
         Expr::One(op, inner) => {
             let inner = check_expr(alloc, names, inner.get())?;

@@ -6,12 +6,15 @@ ghost use Rattle.task_check.specs.Table.{meanings};
 use ease_base::NoMemory;
 use indexmap::IndexMap;
 use std::alloc::Global;
+use task_ast::Kind;
 
 /// What a declared name stands for.
 #[derive(Clone, Copy, Debug, PartialEq, Eq)]
 pub enum Meaning {
-    /// A scalar: the number of its array, from 0.
-    Scalar(u32),
+    /// A scalar: the number of its array, from 0, and its kind.
+    Scalar(u32, Kind),
+    /// An array: its number, from 0, and its kind.
+    Array(u32, Kind),
     /// A task: its number, from 1.
     Task(u32),
 }

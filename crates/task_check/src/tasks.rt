@@ -1,31 +1,25 @@
-//! Tasks: their names, statements and exits, in text order.
-ghost use Rattle.std.specs.Prelude.{◌≡◌, ◌↔◌, ◌∷◌, [], Some, IsTrue, map};
-ghost use Rattle.std.specs.List.{AllByRecursion, flat_map};
-ghost use Rattle.task_ast.specs.Counters.{IsCounterStmt, IsCounterExit, IsCounterTask};
+//! Tasks: their names, statements, exits and nodes, in text order.
+ghost use Rattle.std.specs.Prelude.{◌≡◌, ◌+◌, ◌<◌, ◌≤◌, ◌^◌, map, sum_by};
+ghost use Rattle.task_ast.specs.Sizes.{task_size};
 ghost use Rattle.task_check.specs.Answers.{Answers};
-ghost use Rattle.task_check.specs.Bearers.{other_bearer, numbered_faults};
-ghost use Rattle.task_check.specs.CheckedForm.{task_number, core_stmts, core_exit, core_task};
-ghost use Rattle.task_check.specs.Faults.{next_faults, stmt_faults, exit_faults, inner_faults};
+ghost use Rattle.task_check.specs.Bearers.{other_bearer};
+ghost use Rattle.task_check.specs.CheckedForm.{core_task};
+ghost use Rattle.task_check.specs.Counted.{name_at, task_at, tasks_at};
+ghost use Rattle.task_check.specs.Faults.{inner_faults};
+ghost use Rattle.task_check.specs.Limits.{passes};
+ghost use Rattle.task_check.specs.Nodes.{nodes_of_task};
 ghost use Rattle.task_check.specs.Table.{meanings};
+ghost use Rattle.task_check.specs.declared.error.Limit.TheVariants.{Nodes};
 
-use crate::error::CheckError;
-use crate::expressions::{check_expr, scalar};
+use crate::error::{CheckError, Limit};
+use crate::exits::check_exit;
+use crate::limits::{may_be_long, may_be_name, may_be_task, within};
 use crate::names::{Meaning, Names, number};
+use crate::nodes::task_nodes;
+use crate::statements::check_body;
 use ease_base::List;
 use std::alloc::Global;
-use task_ast::{CoreExit, CoreExpr, CoreStmt, CoreTask, Exit, Name, Stmt, Target, Task};
-
-/// The number of a task that is next.
-fn next_task(names: &Names, x: &Name) -> Result<u32, CheckError>
-    ensures { Answers (next_faults (meanings names.now) x.now)
-        (λ t. t ≡ task_number (meanings names.now x.now.text)) result }
-{
-    match names.find(x.text.as_slice()) {
-        None => Err(CheckError::UnknownName(x.at)),
-        Some(Meaning::Scalar(_)) => Err(CheckError::WrongKind(x.at)),
-        Some(Meaning::Task(task)) => Ok(task),
-    }
-}
+use task_ast::{CoreTask, Name, Task};
 
 /// That the name stands for the task of this number, so that no earlier one has it.
 fn own_name(names: &Names, number: u32, x: &Name) -> Result<(), CheckError>
@@ -37,52 +31,23 @@ fn own_name(names: &Names, number: u32, x: &Name) -> Result<(), CheckError>
     }
 }
 
-fn check_stmt(alloc: Global, names: &Names, s: &Stmt) -> Result<CoreStmt, CheckError>
-    requires counters { IsCounterStmt s.now }
-    ensures { Answers (stmt_faults (meanings names.now) s.now)
-        (λ c. core_stmts (meanings names.now) s.now ≡ c ∷ []) result }
+/// That the name of the task of this number is its own and within the limits, behind so many declarations.
+fn check_name(names: &Names, words: usize, number: u32, x: &Name) -> Result<(), CheckError>
+    ensures { Answers (name_at (meanings names.now) words number x.now) (λ _. Unit {0}) result }
 {
-    match s {
-        Stmt::Assign(Target::Scalar(x), value) => {
-            let array = scalar(names, x)?;
-            let value = check_expr(alloc, names, value)?;
-            Ok(CoreStmt::Assign(array, CoreExpr::Number(0), value))
-        }
-        _ => unreachable!(),
-    }
+    own_name(names, number, x)?;
+    may_be_task(x.at, u128::from(number))?;
+    may_be_name(x.at, words as u128 + u128::from(number))?;
+    may_be_long(x)
 }
 
-fn check_body(alloc: Global, names: &Names, body: &[Stmt]) -> Result<List<CoreStmt>, CheckError>
-    requires counters { AllByRecursion IsCounterStmt body.now }
-    ensures { Answers (flat_map (stmt_faults (meanings names.now)) body.now)
-        (λ cs. cs ≡ flat_map (core_stmts (meanings names.now)) body.now) result }
-{
-    let mut done = List::new(alloc);
-    for s in body {
-        done.push(check_stmt(alloc, names, s)?)?;
-    }
-    Ok(done)
-}
-
-fn check_exit(names: &Names, e: &Exit) -> Result<CoreExit, CheckError>
-    requires counters { IsCounterExit e.now }
-    ensures { Answers (exit_faults (meanings names.now) e.now)
-        (λ c. c ≡ core_exit (meanings names.now) e.now) result }
-{
-    match e {
-        Exit::Next(x) => Ok(CoreExit::Next(next_task(names, x)?)),
-        Exit::Stop => Ok(CoreExit::Stop),
-        Exit::Choose(..) => unreachable!(),
-    }
-}
-
-fn check_task(alloc: Global, names: &Names, t: &Task) -> Result<CoreTask, CheckError>
-    requires counters { IsCounterTask t.now }
+/// The checked form of a task, by its statements and its exit.
+fn check_inside(alloc: Global, names: &Names, t: &Task) -> Result<CoreTask, CheckError>
     ensures { Answers (inner_faults (meanings names.now) t.now)
         (λ c. c ≡ core_task (meanings names.now) t.now) result }
 {
-    let body = check_body(alloc, names, t.body.as_slice())?;
-    let exit = check_exit(names, &t.exit)?;
+    let body = check_body(alloc, names, &[], t.body.as_slice())?;
+    let exit = check_exit(alloc, names, &t.exit)?;
     Ok(CoreTask {
         name: List::from_slice(alloc, t.name.text.as_slice())?,
         body,
@@ -91,20 +56,45 @@ fn check_task(alloc: Global, names: &Names, t: &Task) -> Result<CoreTask, CheckE
     })
 }
 
-/// The checked form of tasks that are numbered from 1.
+/// The nodes of a task, which can be counted.
+#[tactic(auto, using(crate::proofs::SizeLemmas::nodes_counted, crate::proofs::SizeLemmas::task_counted))]
+fn counted_nodes(t: &Task) -> u128
+    requires size { task_size t.now < 2 ^ 32 }
+    ensures same { result ≡ nodes_of_task t.now }
+    ensures few { result < 2 ^ 32 }
+{
+    task_nodes(t)
+}
+
+/// The nodes with those of a task behind them, at most 32,768.
+fn more_nodes(nodes: u128, t: &Task) -> Result<u128, CheckError>
+    requires few { nodes ≤ 32768 }
+    requires size { task_size t.now < 2 ^ 32 }
+    ensures { Answers (passes Nodes 32768 t.now.close (nodes + nodes_of_task t.now))
+        (λ n. (n ≡ nodes + nodes_of_task t.now) × (n ≤ 32768)) result }
+{
+    let nodes = nodes + counted_nodes(t);
+    within(Limit::Nodes, 32768, t.close, nodes)?;
+    Ok(nodes)
+}
+
+/// The checked form of tasks that are numbered from 1, behind so many declarations.
 pub fn check_tasks(
     alloc: Global,
     names: &Names,
+    words: usize,
     tasks: &[Task],
 ) -> Result<List<CoreTask>, CheckError>
-    requires counters { AllByRecursion IsCounterTask tasks.now }
-    ensures { Answers (numbered_faults (meanings names.now) 1 tasks.now)
+    requires size { sum_by task_size tasks.now < 2 ^ 32 }
+    ensures { Answers (tasks_at (meanings names.now) words 0 0 tasks.now)
         (λ ts. ts ≡ map (core_task (meanings names.now)) tasks.now) result }
 {
     let mut done = List::new(alloc);
+    let mut nodes = 0;
     for (at, t) in tasks.iter().enumerate() {
-        own_name(names, number(at + 1)?, &t.name)?;
-        done.push(check_task(alloc, names, t)?)?;
+        check_name(names, words, number(at + 1)?, &t.name)?;
+        done.push(check_inside(alloc, names, t)?)?;
+        nodes = more_nodes(nodes, t)?;
     }
     Ok(done)
 }

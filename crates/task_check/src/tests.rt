@@ -1,6 +1,6 @@
-//! One program with each name of it wrong in turn, and the checked form of an accepted one.
-ghost use Rattle.std.specs.Prelude.{IfOk};
-ghost use Rattle.task_ast.specs.Counters.{IsCounterProgram};
+//! One program with each free name of it wrong in turn, and the checked form of the accepted one.
+ghost use Rattle.std.specs.Prelude.{◌≡◌, IfOk};
+ghost use Rattle.task_ast.specs.Readable.{IsReadable};
 
 use crate::{CheckError, check};
 use ease_base::{List, NoMemory, Pos, Words};
@@ -13,26 +13,28 @@ fn at(column: u32) -> Pos {
     Pos { line: 1, column }
 }
 
-fn name(alloc: Global, text: &str, column: u32) -> Result<Name, NoMemory> {
+fn name(alloc: Global, text: &str, column: u32) -> Result<Name, NoMemory>
+    ensures { IfOk result (λ x. x.text ≡ text.now) }
+{
     Ok(Name {
         text: List::from_slice(alloc, text.as_bytes())?,
         at: at(column),
     })
 }
 
-/// `nv word W; task T { X = Y; NEXT(U); }` with the five names at the columns 1 to 5.
-fn program(alloc: Global, names: [&str; 5]) -> Result<Program, NoMemory>
-    ensures { IfOk result IsCounterProgram }
+/// `nv word x; task t { X = Y; NEXT(U); }` with the names at the columns 1 to 5.
+fn program(alloc: Global, names: [&str; 3]) -> Result<Program, NoMemory>
+    ensures { IfOk result IsReadable }
 {
-    let [word, task, target, read, next] = names;
+    let [target, read, next] = names;
     let mut decls = List::new(alloc);
     let values: Words = List::new(alloc);
-    decls.push(Decl::Words(Kind::Nv, name(alloc, word, 1)?, None, values))?;
+    decls.push(Decl::Words(Kind::Nv, name(alloc, "x", 1)?, None, values))?;
     let mut body = List::new(alloc);
     let target = Target::Scalar(name(alloc, target, 3)?);
     body.push(Stmt::Assign(target, Expr::Read(name(alloc, read, 4)?)))?;
     let task = Task {
-        name: name(alloc, task, 2)?,
+        name: name(alloc, "t", 2)?,
         body,
         exit: Exit::Next(name(alloc, next, 5)?),
         close: at(6),
@@ -46,14 +48,13 @@ fn program(alloc: Global, names: [&str; 5]) -> Result<Program, NoMemory>
 fn each_wrong_name_is_refused_at_its_place(rt: HostRuntime) {
     let alloc = rt.alloc();
     for (names, want) in [
-        (["x", "t", "y", "x", "t"], CheckError::UnknownName(at(3))),
-        (["x", "t", "x", "y", "t"], CheckError::UnknownName(at(4))),
-        (["x", "t", "x", "x", "u"], CheckError::UnknownName(at(5))),
-        (["x", "x", "x", "x", "t"], CheckError::TwiceNamed(at(2))),
-        (["x", "t", "t", "x", "t"], CheckError::WrongKind(at(3))),
-        (["x", "t", "x", "t", "t"], CheckError::WrongKind(at(4))),
-        (["x", "t", "x", "x", "x"], CheckError::WrongKind(at(5))),
-        (["x", "t", "y", "t", "x"], CheckError::UnknownName(at(3))),
+        (["y", "x", "t"], CheckError::UnknownName(at(3))),
+        (["x", "y", "t"], CheckError::UnknownName(at(4))),
+        (["x", "x", "u"], CheckError::UnknownName(at(5))),
+        (["t", "x", "t"], CheckError::WrongKind(at(3))),
+        (["x", "t", "t"], CheckError::WrongKind(at(4))),
+        (["x", "x", "x"], CheckError::WrongKind(at(5))),
+        (["y", "t", "x"], CheckError::UnknownName(at(3))),
     ] {
         let p = program(alloc, names).expect(&rt, "memory");
         match check(alloc, &p) {
@@ -66,7 +67,7 @@ fn each_wrong_name_is_refused_at_its_place(rt: HostRuntime) {
 #[test]
 fn names_become_numbers(rt: HostRuntime) {
     let alloc = rt.alloc();
-    let p = program(alloc, ["x", "t", "x", "x", "t"]).expect(&rt, "memory");
+    let p = program(alloc, ["x", "x", "t"]).expect(&rt, "memory");
     let core = check(alloc, &p).expect(&rt, "accepted");
     let array = core.arrays.get(0).expect(&rt, "an array");
     assert!(&rt; array.first.as_slice() == [0].as_slice());

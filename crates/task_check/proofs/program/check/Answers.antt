@@ -1,25 +1,25 @@
 use Rattle.std.proofs.Common.{sym, subst}
 use Rattle.std.proofs.lemmas.Result.{err_from_is_err_and}
-use Rattle.task_ast.specs.CoreCounters.{IsCounterCore}
+use Rattle.task_ast.specs.WellFormed.{IsWellFormed}
 use Rattle.task_check.specs.Table.{meanings}
 use Rattle.task_check.proofs.ProgramLemmas.{table_is, tasks_refused, all_accepted, core_is}
-use Rattle.task_check.proofs.WellFormed.{core_formed}
+use Rattle.task_check.proofs.WellFormed.{accepted_is_well_formed}
 use Rattle.task_check.proofs.program.check.Goals as goal
 
 pub returns-in_err-tasks-clause-refused : goal.returns-in_err-tasks-clause-refused
 returns-in_err-tasks-clause-refused c =
     let p = err_from_is_err_and c.from_residual-in_err-tasks.result c.from_residual-in_err-tasks.ensures.1 in
     let names = table_is c.args.p.now _ _ _ (meanings c.declare_tasks.new.names) c.as_slice.ensures c.as_slice-2.ensures c.in_ok-names.ensures.1 c.in_ok-declare_tasks.ensures in
-    rw (p.1, p.2) (λ apart. tasks_refused c.args.p.now _ _ _ c.as_slice.ensures c.as_slice-3.ensures names _ c.in_ok-names.ensures.0 (c.in_err-tasks.ensures apart))
+    rw (p.1, p.2) (λ apart. tasks_refused c.args.p.now _ _ _ c.as_slice.ensures c.as_slice-3.ensures names _ c.len.ensures _ c.in_ok-names.ensures.0 (c.in_err-tasks.ensures apart))
 
 pub returns-clause-accepted : goal.returns-clause-accepted
 returns-clause-accepted c =
     let names = table_is c.args.p.now _ _ _ (meanings c.declare_tasks.new.names) c.as_slice.ensures c.as_slice-2.ensures c.in_ok-names.ensures.1 c.in_ok-declare_tasks.ensures in (
-      all_accepted c.args.p.now _ _ _ c.as_slice.ensures c.as_slice-3.ensures names c.in_ok-names.ensures.0 c.in_ok-tasks.ensures.0,
-      core_is c.args.p.now _ _ _ c.as_slice.ensures c.as_slice-3.ensures names _ _ _ _ _ c.as_slice-4.ensures c.in_ok-arrays.ensures c.in_ok-tasks.ensures.1 c.new.ensures c.new-2.ensures,
+      all_accepted c.args.p.now _ _ _ c.as_slice.ensures c.as_slice-3.ensures names _ c.len.ensures c.in_ok-names.ensures.0 c.in_ok-tasks.ensures.0,
+      core_is c.args.p.now _ _ _ c.as_slice.ensures c.as_slice-3.ensures names _ c.len.ensures _ _ _ _ _ c.as_slice-4.ensures c.in_ok-arrays.ensures c.in_ok-tasks.ensures.1 c.new.ensures c.new-2.ensures,
     )
 
 pub returns-clause-well_formed : goal.returns-clause-well_formed
 returns-clause-well_formed c =
     let h = returns-clause-accepted c in
-    subst IsCounterCore (sym h.1) (core_formed c.args.p.now c.requires.counters h.0)
+    subst IsWellFormed (sym h.1) (accepted_is_well_formed c.args.p.now c.requires.readable h.0)

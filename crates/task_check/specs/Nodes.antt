@@ -1,0 +1,71 @@
+-- The nodes of a program as it is read, which are limited.
+use Rattle.std.specs.Prelude.{◌≡◌, ℕ, ◌+◌, List, sum_by}
+use Rattle.std.proofs.Common.{refl, sym, ap, ◌∙◌}
+use Rattle.std.proofs.lemmas.List.Sums.{sum_by-cons}
+use Rattle.ease_base.specs.declared.place.Pos.{Pos}
+use Rattle.task_ast.specs.declared.tree.Name.{Name}
+use Rattle.task_ast.specs.declared.tree.Expr.{Expr, end_of-Expr, more_of-Expr}
+use Rattle.task_ast.specs.declared.tree.Expr.TheVariants as expr
+use Rattle.task_ast.specs.declared.tree.Target.{Target}
+use Rattle.task_ast.specs.declared.tree.Target.TheVariants as target
+use Rattle.task_ast.specs.declared.tree.Stmt.{Stmt, Row_of-Stmt, end_of-Stmt, more_of-Stmt, items-the_row-Stmt}
+use Rattle.task_ast.specs.declared.tree.Stmt.TheVariants as stmt
+use Rattle.task_ast.specs.declared.tree.Exit.{Exit, end_of-Exit, more_of-Exit}
+use Rattle.task_ast.specs.declared.tree.Exit.TheVariants as exit
+use Rattle.task_ast.specs.declared.tree.Task.{Task}
+use Rattle.task_ast.specs.Rows.{row_of, row_shows}
+
+-- the nodes of an expression: each part counts 1, and parentheses count as their inside
+abbrev pub nodes_of_expr : Expr → ℕ
+nodes_of_expr (expr.Number n at) = 1
+nodes_of_expr (expr.Read x) = 1
+nodes_of_expr (expr.Index' x u (more_of-Expr i end_of-Expr)) = 1 + nodes_of_expr i
+nodes_of_expr (expr.Paren' u (more_of-Expr e end_of-Expr)) = nodes_of_expr e
+nodes_of_expr (expr.One' op u (more_of-Expr e end_of-Expr)) = 1 + nodes_of_expr e
+nodes_of_expr (expr.Two' op u (more_of-Expr a end_of-Expr) v (more_of-Expr b end_of-Expr)) = 1 + nodes_of_expr a + nodes_of_expr b
+
+-- a target counts 1, and an element's index besides
+abbrev pub nodes_of_target : Target → ℕ
+nodes_of_target (target.Scalar x) = 1
+nodes_of_target (target.Element x i) = 1 + nodes_of_expr i
+
+abbrev mutual
+  -- a statement counts 1 and its parts, and a loop's body counts once; of today's language
+  pub nodes_of_stmt : Stmt → ℕ
+  nodes_of_stmt (stmt.Assign x e) = 1 + nodes_of_target x + nodes_of_expr e
+  nodes_of_stmt (stmt.If' c m yes_row n no_row) = 1 + nodes_of_expr c + nodes_of_row yes_row + nodes_of_row no_row
+  nodes_of_stmt (stmt.For' i turns at m row word) = 1 + nodes_of_row row
+  nodes_of_stmt _ = 1
+
+  -- the nodes of a row's statements
+  pub nodes_of_row : {n : _} → Row_of-Stmt n → ℕ
+  nodes_of_row end_of-Stmt = 0
+  nodes_of_row (more_of-Stmt s rest) = nodes_of_stmt s + nodes_of_row rest
+
+-- an exit counts 1 and its parts
+abbrev pub nodes_of_exit : Exit → ℕ
+nodes_of_exit (exit.Next x) = 1
+nodes_of_exit exit.Stop = 1
+nodes_of_exit (exit.Choose' c u (more_of-Exit a end_of-Exit) v (more_of-Exit b end_of-Exit)) = 1 + nodes_of_expr c + nodes_of_exit a + nodes_of_exit b
+
+-- the nodes of a task: those of its statements and of its exit
+abbrev pub nodes_of_task : Task → ℕ
+nodes_of_task t = sum_by nodes_of_stmt t.body + nodes_of_exit t.exit
+
+-- the nodes of a row are those of the statements that it shows
+nodes_of_rows : (n : _) (row : Row_of-Stmt n) → nodes_of_row row ≡ sum_by nodes_of_stmt (items-the_row-Stmt n row)
+nodes_of_rows n end_of-Stmt = refl
+nodes_of_rows n (more_of-Stmt s rest) = ap (λ k. nodes_of_stmt s + k) (nodes_of_rows _ rest) ∙ sym (sum_by-cons nodes_of_stmt s (items-the_row-Stmt _ rest))
+
+nodes_of_body : (body : List Stmt) → nodes_of_row (row_of body).1 ≡ sum_by nodes_of_stmt body
+nodes_of_body body = nodes_of_rows (row_of body).0 (row_of body).1 ∙ ap (sum_by nodes_of_stmt) (row_shows body)
+
+-- the nodes of an `if`
+pub nodes_of_if : (c : Expr) (yes_part no_part : List Stmt) → nodes_of_stmt (stmt.If c yes_part no_part) ≡ 1 + nodes_of_expr c + sum_by nodes_of_stmt yes_part + sum_by nodes_of_stmt no_part
+nodes_of_if c yes_part no_part =
+    ap (λ k. 1 + nodes_of_expr c + k + nodes_of_row (row_of no_part).1) (nodes_of_body yes_part)
+    ∙ ap (λ k. 1 + nodes_of_expr c + sum_by nodes_of_stmt yes_part + k) (nodes_of_body no_part)
+
+-- the nodes of a loop
+pub nodes_of_for : (i : Name) (turns : ℕ) (at : Pos) (body : List Stmt) (word : Pos) → nodes_of_stmt (stmt.For i turns at body word) ≡ 1 + sum_by nodes_of_stmt body
+nodes_of_for i turns at body word = ap (λ k. 1 + k) (nodes_of_body body)
