@@ -8,6 +8,7 @@ pub mod DivisionSteps
 pub mod Examples
 pub mod ExprComplete
 pub mod ExprSound
+pub mod GrammarExamples
 pub mod Items
 pub mod ItemsComplete
 pub mod ItemsSound
