@@ -4,5 +4,9 @@ pub mod Division
 pub mod Grammar
 pub mod GrammarRows
 pub mod Reading
+pub mod ReadingDecl
+pub mod ReadingExpr
+pub mod ReadingProgram
+pub mod ReadingStmt
 pub mod Reads
 pub mod Spelling

@@ -3,11 +3,17 @@
 
 mod cursor;
 mod cut;
+mod decl;
 mod divide;
 mod error;
+mod exit;
 mod expr;
+mod loop_head;
+mod operator;
 mod program;
 mod read;
+mod stmt;
+mod task;
 #[cfg(test)]
 mod tests;
 mod token;
