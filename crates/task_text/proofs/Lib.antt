@@ -1,5 +1,4 @@
 pub mod Bytes
-pub mod CountersLaws
 pub mod CutComplete
 pub mod CutLemmas
 pub mod CutSound
@@ -13,6 +12,8 @@ pub mod Items
 pub mod ItemsComplete
 pub mod ItemsSound
 pub mod Numerals
+pub mod Offs
+pub mod OperatorLaws
 pub mod ReadLaws
 pub mod Stays
 pub mod Tables

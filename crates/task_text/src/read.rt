@@ -2,7 +2,6 @@
 ghost use Rattle.std.specs.Prelude.{◌≡◌, ◌<◌, ◌⊎◌, length, List, ℕ, IfOk, IfErr, Ok, Err};
 ghost use Rattle.ease_base.specs.declared.place.Pos.{Pos};
 ghost use Rattle.task_ast.specs.declared.tree.Program.{Program};
-ghost use Rattle.task_ast.specs.Counters.{IsCounterProgram};
 ghost use Rattle.task_text.specs.declared.error.TextError.{TextError};
 ghost use Rattle.task_text.specs.declared.error.TextError.TheVariants.{Syntax, NumberTooWide};
 ghost use Rattle.task_text.specs.Division.{Piece, Divides, BreaksAt};
@@ -78,7 +77,6 @@ pub fn read_program(alloc: Global, text: &[u8]) -> Result<Program, TextError>
     ensures refused { IfErr result (IsCause text.now) }
     ensures breaks { (at : Pos) → BreaksAt text.now at → Answers result (Err (Syntax at)) }
     ensures wide { (at : Pos) → IsTooWideAt text.now at → Answers result (Err (NumberTooWide at)) }
-    ensures counters { IfOk result IsCounterProgram }
 {
     read(alloc, text)
 }
