@@ -20,3 +20,5 @@ pub mod Tables
 pub mod Terms
 pub mod TokenLaws
 pub mod Totality
+pub mod FairTokens
+pub mod ReadableTrees
