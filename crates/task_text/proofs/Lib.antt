@@ -22,3 +22,5 @@ pub mod TokenLaws
 pub mod Totality
 pub mod FairTokens
 pub mod ReadableTrees
+pub mod Lexemes
+pub mod PrintedExprs

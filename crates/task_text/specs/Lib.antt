@@ -3,6 +3,7 @@ pub mod Divided
 pub mod Division
 pub mod Grammar
 pub mod GrammarRows
+pub mod Printed
 pub mod Reading
 pub mod ReadingDecl
 pub mod ReadingExpr
@@ -10,3 +11,4 @@ pub mod ReadingProgram
 pub mod ReadingStmt
 pub mod Reads
 pub mod Spelling
+pub mod Unplaced
