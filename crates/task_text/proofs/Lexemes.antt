@@ -58,6 +58,33 @@ none_of (t ∷ ts) is = absurd (let e = ap length is in omega (arith, e))
 pub one_of : (tokens : List Token) (x : Lexeme) → lexemes tokens ≡ x ∷ [] → (at : Pos) × (tokens ≡ placed x at ∷ [])
 one_of tokens x is = let f = first_of tokens x [] is in (f.at, f.whole ∙ ap (λ ts. placed x f.at ∷ ts) (none_of f.behind f.back))
 
+-- and so for more
+pub three_of : (ts : List Token) (x y z : Lexeme) → lexemes ts ≡ x ∷ y ∷ z ∷ [] → (a b c : Pos) × (ts ≡ placed x a ∷ placed y b ∷ placed z c ∷ [])
+three_of ts x y z is =
+    let f = first_of ts x (y ∷ z ∷ []) is in
+    let g = first_of f.behind y (z ∷ []) f.back in
+    let h = one_of g.behind z g.back in
+    (f.at, g.at, h.0, f.whole ∙ ap (λ l. placed x f.at ∷ l) (g.whole ∙ ap (λ l. placed y g.at ∷ l) h.1))
+
+pub four_of : (ts : List Token) (w x y z : Lexeme) → lexemes ts ≡ w ∷ x ∷ y ∷ z ∷ [] → (d a b c : Pos) × (ts ≡ placed w d ∷ placed x a ∷ placed y b ∷ placed z c ∷ [])
+four_of ts w x y z is =
+    let f = first_of ts w (x ∷ y ∷ z ∷ []) is in
+    let r = three_of f.behind x y z f.back in
+    (f.at, r.0, r.1, r.2, f.whole ∙ ap (λ l. placed w f.at ∷ l) r.3)
+
+pub five_of : (ts : List Token) (v w x y z : Lexeme) → lexemes ts ≡ v ∷ w ∷ x ∷ y ∷ z ∷ [] → (e d a b c : Pos) × (ts ≡ placed v e ∷ placed w d ∷ placed x a ∷ placed y b ∷ placed z c ∷ [])
+five_of ts v w x y z is =
+    let f = first_of ts v (w ∷ x ∷ y ∷ z ∷ []) is in
+    let r = four_of f.behind w x y z f.back in
+    (f.at, r.0, r.1, r.2, r.3, f.whole ∙ ap (λ l. placed v f.at ∷ l) r.4)
+
+pub six_of : (ts : List Token) (u v w x y z : Lexeme) → lexemes ts ≡ u ∷ v ∷ w ∷ x ∷ y ∷ z ∷ []
+    → (f e d a b c : Pos) × (ts ≡ placed u f ∷ placed v e ∷ placed w d ∷ placed x a ∷ placed y b ∷ placed z c ∷ [])
+six_of ts u v w x y z is =
+    let f = first_of ts u (v ∷ w ∷ x ∷ y ∷ z ∷ []) is in
+    let r = five_of f.behind v w x y z f.back in
+    (f.at, r.0, r.1, r.2, r.3, r.4, f.whole ∙ ap (λ l. placed u f.at ∷ l) r.5)
+
 -- tokens whose lexemes stand between two signs
 pub record Inside (tokens : List Token) (first last : Sign) (xs : List Lexeme) : Type 0 where
   pub at_first : Pos

@@ -24,3 +24,4 @@ pub mod FairTokens
 pub mod ReadableTrees
 pub mod Lexemes
 pub mod PrintedExprs
+pub mod PrintedStmts

@@ -33,7 +33,7 @@ pub record ExprAgain (e : Expr) (level : ℕ) (tokens : List Token) : Type 0 whe
   pub deep : depth tree ≡ depth e
 
 -- what stands between signs again
-between_again : (first last : Sign) (P : List Token → Type 0) (tokens : List Token) (xs : List Lexeme) (i : Inside tokens first last xs) → P i.inner → IsBetween first last P tokens
+pub between_again : (first last : Sign) (P : List Token → Type 0) (tokens : List Token) (xs : List Lexeme) (i : Inside tokens first last xs) → P i.inner → IsBetween first last P tokens
 between_again first last P tokens xs i h = record { at_first = i.at_first; at_last = i.at_last; inner = i.inner; whole = i.whole; inside = h }
 
 number_again : (n level : ℕ) (at : Pos) (tokens : List Token) → lexemes tokens ≡ lexeme.Number n ∷ [] → ExprAgain (expr.Number n at) level tokens
@@ -81,7 +81,7 @@ two_again o a b level tokens low p f left right = record {
   deep = λ i. 1 + max (left.deep i) (right.deep i);
 }
 
-append_over : {A : Type 0} (xs : List A) (y : A) (ys : List A) → (xs ++ y ∷ []) ++ ys ≡ xs ++ y ∷ ys
+pub append_over : {A : Type 0} (xs : List A) (y : A) (ys : List A) → (xs ++ y ∷ []) ++ ys ≡ xs ++ y ∷ ys
 append_over [] y ys = refl
 append_over (x ∷ xs) y ys = ap (λ zs. x ∷ zs) (append_over xs y ys)
 
