@@ -25,3 +25,7 @@ pub mod ReadableTrees
 pub mod Lexemes
 pub mod PrintedExprs
 pub mod PrintedStmts
+pub mod PrintedPrograms
+pub mod PrintedTexts
+pub mod Decimals
+pub mod PrintedLaw

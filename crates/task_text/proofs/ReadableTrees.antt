@@ -32,19 +32,19 @@ use Rattle.task_text.specs.Grammar.{reserved, symbol, name, sign_of, IsBetween, 
 use Rattle.task_text.specs.Reads.{Reads}
 use Rattle.task_text.proofs.FairTokens.{IsFair, fair_text, few_in_text}
 
-abbrev AreFair : List Token → Type 0
+abbrev pub AreFair : List Token → Type 0
 AreFair tokens = AllByRecursion IsFair tokens
 
-fair_front : (xs ys : List Token) → AreFair (xs ++ ys) → AreFair xs
+pub fair_front : (xs ys : List Token) → AreFair (xs ++ ys) → AreFair xs
 fair_front [] ys h = tt
 fair_front (x ∷ xs) ys h = (h.0, fair_front xs ys h.1)
 
-fair_back : (xs ys : List Token) → AreFair (xs ++ ys) → AreFair ys
+pub fair_back : (xs ys : List Token) → AreFair (xs ++ ys) → AreFair ys
 fair_back [] ys h = h
 fair_back (x ∷ xs) ys h = fair_back xs ys h.1
 
 -- what is inside signs is fair, and two tokens shorter
-fair_inside : (first last : Sign) (P : List Token → Type 0) (tokens : List Token) (b : IsBetween first last P tokens) → AreFair tokens → AreFair b.inner
+pub fair_inside : (first last : Sign) (P : List Token → Type 0) (tokens : List Token) (b : IsBetween first last P tokens) → AreFair tokens → AreFair b.inner
 fair_inside first last P tokens b fair = fair_front b.inner _ (subst AreFair b.whole fair).1
 
 inside_shorter : (first last : Sign) (P : List Token → Type 0) (tokens : List Token) (b : IsBetween first last P tokens) → length tokens ≡ 2 + length b.inner
