@@ -144,6 +144,14 @@ spelling lexeme.TooWide = []
 spelling (lexeme.Reserved k) = letters k
 spelling (lexeme.Symbol s) = marks s
 
+-- tokens with a space behind each
+abbrev pub trailed : List Lexeme → List ℕ
+trailed xs = flat_map (λ x. spelling x ++ 32 ∷ []) xs
+
+-- the text with tokens put behind it
+abbrev pub Puts : List ℕ → List Lexeme → List ℕ → Type 0
+Puts before xs after = after ≡ before ++ trailed xs
+
 -- tokens with a space behind each but the last, and a line feed behind that
 abbrev pub spaced : List Lexeme → List ℕ
 spaced [] = []

@@ -10,6 +10,8 @@ mod exit;
 mod expr;
 mod loop_head;
 mod operator;
+mod print_expr;
+mod put;
 mod program;
 mod read;
 mod stmt;

@@ -1,0 +1,39 @@
+//! Expressions and targets in their printed form.
+ghost use Rattle.std.specs.Prelude.{◌≡◌, ◌++◌, OnOk};
+ghost use Rattle.task_text.specs.Grammar.{sign_of, prefix_of};
+ghost use Rattle.task_text.specs.Printed.{Puts, bracketed, parenthesized, named, expr_tokens, target_tokens};
+
+use crate::put::{put_name, put_numeral, put_sign};
+use crate::token::Sign;
+use ease_base::{NoMemory, Text};
+use task_ast::{Expr, Name, Op1, Op2, Target};
+
+/// An expression, with the parentheses that it has.
+pub fn put_expr(out: &mut Text, e: &Expr) -> Result<(), NoMemory>
+    ensures { OnOk result (Puts out.old (expr_tokens e.now) out.new) }
+{
+    match e {
+        Expr::Number(n, _) => put_numeral(out, *n),
+        Expr::Read(x) => put_name(out, x),
+        Expr::Index(x, index) => {
+            put_name(out, x)?;
+            put_sign(out, Sign::BracketOpen)?;
+            put_expr(out, index.get())?;
+            put_sign(out, Sign::BracketClose)
+        }
+        Expr::Paren(inner) => {
+            put_sign(out, Sign::ParenOpen)?;
+            put_expr(out, inner.get())?;
+            put_sign(out, Sign::ParenClose)
+        }
+        Expr::One(op, operand) => {
+            put_sign(out, prefix_sign(*op))?;
+            put_expr(out, operand.get())
+        }
+        Expr::Two(op, left, right) => {
+            put_expr(out, left.get())?;
+            put_sign(out, operator_sign(*op))?;
+            put_expr(out, right.get())
+        }
+    }
+}
