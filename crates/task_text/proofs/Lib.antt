@@ -26,3 +26,4 @@ pub mod TaskLaws
 pub mod Terms
 pub mod TokenLaws
 pub mod Totality
+pub mod Turns
