@@ -84,7 +84,7 @@ chosen-sound level inner low each c ts us e h =
     let later = reserved-sound keyword.Else a.0.rest w.0.rest w.0.value w.1 ∙ ap (λ xs. word ∷ xs) bo.split in
     let back = ao.front ++ word ∷ bo.front in
     let fits : (front : List Token) → IsTest c front → IsExit level (exit.Choose c a.0.value b.0.value) (front ++ back) =
-        λ front t. subst (λ xs. IsExit level (exit.Choose c a.0.value b.0.value) (xs ++ back)) (sym t.whole) (choose-is level c a.0.value b.0.value t.at w.0.value t.test ao.front bo.front low t.inside ao.fits bo.fits) in
+    λ front t. subst (λ xs. IsExit level (exit.Choose c a.0.value b.0.value) (xs ++ back)) (sym t.whole) (choose-is level c a.0.value b.0.value t.at w.0.value t.test ao.front bo.front low t.inside ao.fits bo.fits) in
     subst (λ (f : Found Exit). ChosenOff level c ts f.value f.rest) (same_found _ e us b.2)
     (record { back = back; split = off-after (IsExit (1 + level)) ts a.0.rest b.0.rest (word ∷ bo.front) a.0.value ao later; fits = fits })
 

@@ -59,7 +59,7 @@ pub program-complete : (p : Program) (tokens : List Token) → IsProgram p token
 unfolding program_at
 program-complete p tokens h =
     let all : tasks_at h.back ≡ found p.tasks [] =
-        ap tasks_at (sym (append-nil h.back)) ∙ many-complete Tasks (begins_reserved keyword.Task) task_at tasks (length (h.back ++ [])) p.tasks h.back [] (all_of (IsItemRead Tasks task_at) task-complete p.tasks) h.tasks refl refl (omega arith) in
+    ap tasks_at (sym (append-nil h.back)) ∙ many-complete Tasks (begins_reserved keyword.Task) task_at tasks (length (h.back ++ [])) p.tasks h.back [] (all_of (IsItemRead Tasks task_at) task-complete p.tasks) h.tasks refl refl (omega arith) in
     ap program_at h.whole
     ∙ bind-at _ _ p.decls h.back (many-complete IsDecl begins_decl decl_at declarations (length (h.front ++ h.back)) p.decls h.front h.back (all_of (IsItemRead IsDecl decl_at) decl-complete p.decls) h.decls (tasks-begin p.tasks h.back h.tasks h.some) (tasks-safe p.tasks h.back h.tasks h.some) (omega arith))
     ∙ bind-at _ _ p.tasks [] all

@@ -68,18 +68,18 @@ unfolding branch_of
 branch-cases c front old ts us t e test h (inl held) =
     acting-sound old (choice_of (stmt_at inner_left) c ts) us t
     (λ s vs k.
-        let o = choice-sound (IsStmt (1 + 1)) (stmt_at inner_left) inner-stmts c ts vs s k in
-        record {
-          front = front ++ (o.body ++ o.other);
-          split = e ∙ ap (λ xs. front ++ xs) o.split ∙ sym (append_assoc front (o.body ++ o.other) vs);
-          fits = if-is 1 (stmt_at inner_left) inner-stmts (omega arith) c front ts vs s test o;
-        })
+    let o = choice-sound (IsStmt (1 + 1)) (stmt_at inner_left) inner-stmts c ts vs s k in
+    record {
+      front = front ++ (o.body ++ o.other);
+      split = e ∙ ap (λ xs. front ++ xs) o.split ∙ sym (append_assoc front (o.body ++ o.other) vs);
+      fits = if-is 1 (stmt_at inner_left) inner-stmts (omega arith) c front ts vs s test o;
+    })
     (sym (cond-true (begins_sign sign.BraceOpen ts) (acting (choice_of (stmt_at inner_left) c ts)) _ held) ∙ h)
 branch-cases c front old ts us t e test h (inr failed) =
     leaving-sound old (chosen_of (exit_at inner_left) c ts) us t
     (λ x vs k.
-        let o = chosen-sound 1 (exit_at inner_left) (omega arith) inner-exits c ts vs x k in
-        record { front = front ++ o.back; split = e ∙ ap (λ xs. front ++ xs) o.split ∙ sym (append_assoc front o.back vs); fits = o.fits front test })
+    let o = chosen-sound 1 (exit_at inner_left) (omega arith) inner-exits c ts vs x k in
+    record { front = front ++ o.back; split = e ∙ ap (λ xs. front ++ xs) o.split ∙ sym (append_assoc front o.back vs); fits = o.fits front test })
     (sym (cond-false (begins_sign sign.BraceOpen ts) (acting (choice_of (stmt_at inner_left) c ts)) _ failed) ∙ h)
 
 act-or-leave : (ts us : List Token) (t : Turn) → cond (begins_stmt ts) (acting (stmt_at most_nested ts)) (leaving (leave_at ts)) ≡ found t us → (begins_stmt ts ≡ true) ⊎ (begins_stmt ts ≡ false) → Off IsTurn ts t us
@@ -145,8 +145,8 @@ task-sound ts us t h =
     let f = o.fits in
     let close = symbol sign.BraceClose c.0.value in
     let closed : b.0.rest ≡ (f.body ++ (f.ending ++ close ∷ [])) ++ c.0.rest =
-        o.split ∙ ap (λ xs. xs ++ r.0.rest) f.whole ∙ append_assoc f.body f.ending r.0.rest ∙ ap (λ xs. f.body ++ (f.ending ++ xs)) (sign-sound sign.BraceClose r.0.rest c.0.rest c.0.value c.1)
-        ∙ ap (λ xs. f.body ++ xs) (sym (append_assoc f.ending (close ∷ []) c.0.rest)) ∙ sym (append_assoc f.body (f.ending ++ close ∷ []) c.0.rest) in
+    o.split ∙ ap (λ xs. xs ++ r.0.rest) f.whole ∙ append_assoc f.body f.ending r.0.rest ∙ ap (λ xs. f.body ++ (f.ending ++ xs)) (sign-sound sign.BraceClose r.0.rest c.0.rest c.0.value c.1)
+    ∙ ap (λ xs. f.body ++ xs) (sym (append_assoc f.ending (close ∷ []) c.0.rest)) ∙ sym (append_assoc f.body (f.ending ++ close ∷ []) c.0.rest) in
     let named = name-sound a.0.rest x.0.rest x.0.value x.1 ∙ ap (λ xs. name x.0.value ∷ xs) (sign-sound sign.BraceOpen x.0.rest b.0.rest b.0.value b.1 ∙ ap (λ xs. symbol sign.BraceOpen b.0.value ∷ xs) closed) in
     off-found Tasks ts _ t us (record {
       front = reserved keyword.Task a.0.value ∷ name x.0.value ∷ symbol sign.BraceOpen b.0.value ∷ (f.body ++ (f.ending ++ close ∷ []));
