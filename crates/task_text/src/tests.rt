@@ -279,7 +279,7 @@ fn the_ifs_of_an_exit_nest_at_most_16_deep(rt: HostRuntime) -> Result<(), Fail> 
     let table: [(usize, &[u8], Option<TextError>); 4] = [
         (16, b"if(1)STOP;else ", None),
         (17, b"if(1)STOP;else ", Some(syntax(1, 250))),
-        (9000, b"if(1)STOP;else ", Some(syntax(1, 250))),
+        (5000, b"if(1)STOP;else ", Some(syntax(1, 250))),
         (17, b"if(1)", Some(syntax(1, 90))),
     ];
     for (count, open, expected) in &table {
