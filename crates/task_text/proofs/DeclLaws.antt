@@ -1,8 +1,7 @@
 -- Declarations that are read are in the grammar, and those in the grammar are read.
-use Rattle.std.proofs.Common.{◌≡◌, ℕ, suc, ◌<◌, ◌≤◌, true, false, cond, List, [], ◌∷◌, ◌++◌, length, Option, Some, None, Err, refl, sym, ap, ◌∙◌, arith, ◌⊎◌, inl, inr, append_assoc, length-append}
+use Rattle.std.proofs.Common.{◌≡◌, ℕ, ◌<◌, true, false, cond, List, [], ◌∷◌, ◌++◌, length, Option, Some, None, Err, refl, sym, ap, ◌∙◌, arith, ◌⊎◌, inl, inr, append_assoc, length-append}
 use Rattle.std.proofs.lemmas.Bool.{cond-true, cond-false, cases_Bool}
 use Rattle.ease_base.specs.declared.place.Pos.{Pos}
-use Rattle.task_ast.specs.declared.tree.Name.{Name}
 use Rattle.task_ast.specs.declared.tree.Kind.{Kind}
 use Rattle.task_ast.specs.declared.tree.Kind.TheVariants as kind
 use Rattle.task_ast.specs.declared.tree.Decl.{Decl}
@@ -11,10 +10,10 @@ use Rattle.task_text.specs.declared.token.Keyword.TheVariants as keyword
 use Rattle.task_text.specs.declared.token.Sign.TheVariants as sign
 use Rattle.task_text.specs.declared.token.Token.{Token}
 use Rattle.task_text.specs.declared.cursor.Numeral.{Numeral}
-use Rattle.task_text.specs.Grammar.{symbol, reserved, number, name, IsBetween, IsBraced, AreAll, IsKind, IsNumber, IsSize, IsNextValue, AreValues, IsInit, IsDecl}
-use Rattle.task_text.specs.Reading.{Found, Outcome, found, ◌>>=◌, between, begins_sign, begins_reserved, begins_decl, sign_at, reserved_at, name_at, number_at, many}
+use Rattle.task_text.specs.Grammar.{symbol, reserved, number, name, IsBetween, IsBraced, IsKind, IsNumber, IsSize, IsNextValue, AreValues, IsInit, IsDecl}
+use Rattle.task_text.specs.Reading.{found, ◌>>=◌, between, begins_sign, begins_reserved, begins_decl, sign_at, reserved_at, name_at, number_at, many}
 use Rattle.task_text.specs.ReadingDecl.{const_at, nv_at, kind_at, size_at, next_value_at, values_at, list_at, init_at, decl_at}
-use Rattle.task_text.proofs.TokenLaws.{not_found, bind_found, sign-sound, reserved-sound, name-sound, number-sound, sign-begins, sign-complete, reserved-begins, reserved-complete, name-complete, number-complete}
+use Rattle.task_text.proofs.TokenLaws.{bind_found, sign-sound, reserved-sound, name-sound, number-sound, sign-complete, reserved-complete, name-complete, number-complete}
 use Rattle.task_text.proofs.Offs.{Off, off-found, off-after, off-takes, IsSound, between-sound, bind-at, between-complete}
 use Rattle.task_text.proofs.Items.{Items, Takes}
 use Rattle.task_text.proofs.Many.{many-sound, many-complete, NoElse, IsItemRead, Beginnings, all_of}

@@ -1,5 +1,5 @@
 -- Exits that are read are in the grammar, and those in the grammar are read.
-use Rattle.std.proofs.Common.{◌≡◌, ℕ, zero, suc, ◌+◌, ◌<◌, ◌≤◌, true, false, List, [], ◌∷◌, ◌++◌, length, refl, sym, ap, subst, ◌∙◌, arith, ◌⊎◌, inl, inr, append_assoc, length-append}
+use Rattle.std.proofs.Common.{◌≡◌, ℕ, zero, suc, ◌+◌, ◌≤◌, true, false, List, [], ◌∷◌, ◌++◌, refl, sym, ap, subst, ◌∙◌, arith, ◌⊎◌, inl, inr, append_assoc}
 use Rattle.std.proofs.lemmas.Bool.{cond-true, cond-false, cases_Bool}
 use Rattle.ease_base.specs.declared.place.Pos.{Pos}
 use Rattle.task_ast.specs.declared.tree.Name.{Name}
@@ -14,13 +14,12 @@ use Rattle.task_text.specs.declared.token.Keyword.TheVariants as keyword
 use Rattle.task_text.specs.declared.token.Sign.TheVariants as sign
 use Rattle.task_text.specs.declared.token.Token.{Token}
 use Rattle.task_text.specs.Grammar.{symbol, reserved, name, IsParenthesized, IsValue, IsExit}
-use Rattle.task_text.specs.Reading.{Found, Outcome, found, ◌>>=◌, begins_reserved, begins_stmt, begins_sign, sign_at, reserved_at, name_at}
+use Rattle.task_text.specs.Reading.{Found, Outcome, found, begins_reserved, sign_at, reserved_at, name_at}
 use Rattle.task_text.specs.ReadingStmt.{test_at}
 use Rattle.task_text.specs.ReadingProgram.{next_at, stop_at, leave_at, chosen_of, choose_of, exit_at}
 use Rattle.task_text.proofs.TokenLaws.{same_found, bind_found, sign-sound, reserved-sound, name-sound, sign-complete, reserved-begins, reserved-complete, name-complete}
-use Rattle.task_text.proofs.Offs.{Off, off-found, off-after, IsSound, IsReadAlways, bind-at}
+use Rattle.task_text.proofs.Offs.{Off, off-found, off-after, IsSound, bind-at}
 use Rattle.task_text.proofs.ExprComplete.{measured}
-use Rattle.task_text.proofs.Many.{NoElse}
 use Rattle.task_text.proofs.StmtSound.{IsTest, Tests, test-sound}
 use Rattle.task_text.proofs.StmtComplete.{test-complete}
 

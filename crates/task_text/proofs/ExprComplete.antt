@@ -1,10 +1,9 @@
 -- An expression of the grammar is read, where no operator goes on with it.
-use Rattle.std.proofs.Common.{◌≡◌, ℕ, suc, ◌+◌, ◌-◌, ◌<◌, ◌≤◌, max, true, false, List, [], ◌∷◌, ◌++◌, refl, sym, ap, subst, ◌∙◌, arith, append_assoc}
+use Rattle.std.proofs.Common.{◌≡◌, ℕ, suc, ◌+◌, ◌-◌, ◌<◌, ◌≤◌, max, false, List, [], ◌∷◌, ◌++◌, refl, sym, ap, subst, ◌∙◌, arith, append_assoc}
 use Rattle.std.proofs.lemmas.Bool.{cond-true, cond-false}
 use Rattle.ease_base.specs.declared.place.Pos.{Pos}
 use Rattle.task_ast.specs.declared.tree.Name.{Name}
 use Rattle.task_ast.specs.declared.tree.Op1.{Op1}
-use Rattle.task_ast.specs.declared.tree.Op1.TheVariants as op1
 use Rattle.task_ast.specs.declared.tree.Op2.{Op2}
 use Rattle.task_ast.specs.declared.tree.Op2.TheVariants as op
 use Rattle.task_ast.specs.declared.tree.Expr.{Expr}
@@ -13,14 +12,12 @@ use Rattle.task_ast.specs.declared.tree.Expr.TheBlock.{hidden-the_row-Expr-0, sh
 use denote.Hole.Carrier.{hidden}
 use Rattle.task_ast.specs.Expressions.{HoldsByParts, for_every}
 use Rattle.task_ast.specs.Readable.{depth, deepest}
-use Rattle.task_text.specs.declared.token.Sign.{Sign}
 use Rattle.task_text.specs.declared.token.Sign.TheVariants as sign
 use Rattle.task_text.specs.declared.token.Token.{Token}
 use Rattle.task_text.specs.declared.expr.Deep.{Deep}
 use Rattle.task_text.specs.Grammar.{symbol, number, name, sign_of, binds, prefix_of, prefix_binds, IsParenthesized, IsBracketed, IsExpr, IsValue}
-use Rattle.task_text.specs.Reading.{Outcome, found, ◌>>=◌, between, begins_sign, begins_name, name_at, number_at}
-use Rattle.task_text.specs.ReadingExpr.{indexed, parenthesized, prefixed, joined, begins_prefix, begins_operator, operator_at, prefix_at, literal_at, behind_name, named_of, paren_of, prefixed_of, part_of, expr_at, value_at, is_there}
-use Rattle.task_text.proofs.TokenLaws.{name-complete, number-complete}
+use Rattle.task_text.specs.Reading.{Outcome, found, between, begins_sign, name_at, number_at}
+use Rattle.task_text.specs.ReadingExpr.{joined, begins_prefix, begins_operator, literal_at, behind_name, named_of, paren_of, prefixed_of, part_of, expr_at, value_at, is_there}
 use Rattle.task_text.proofs.Offs.{bind-at, between-complete}
 use Rattle.task_text.proofs.OperatorLaws.{sign-unary, operator-complete, prefix-complete, begins-tight, begins-loose, begins-looser, begins-none, binds-below}
 use Rattle.task_text.proofs.Terms.{Terms, Terms-none, Terms-more, Terms-all}

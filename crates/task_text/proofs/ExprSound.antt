@@ -1,5 +1,5 @@
 -- An expression that is read is in the grammar, and not too deep.
-use Rattle.std.proofs.Common.{◌≡◌, ℕ, zero, suc, ◌+◌, ◌<◌, ◌≤◌, max, true, false, cond, ltb, List, [], ◌∷◌, ◌++◌, Err, refl, sym, ap, subst, ◌∙◌, arith, ◌⊎◌, inl, inr, append_assoc}
+use Rattle.std.proofs.Common.{◌≡◌, ℕ, zero, suc, ◌+◌, ◌<◌, ◌≤◌, max, true, false, cond, ltb, List, [], ◌∷◌, ◌++◌, Err, refl, sym, ap, subst, ◌∙◌, arith, ◌⊎◌, inl, inr}
 use Rattle.std.proofs.lemmas.Bool.{cond-true, cond-false, cases_Bool}
 use borrow.Author.Tests.{ltb-true}
 use Rattle.ease_base.specs.declared.place.Pos.{Pos}
@@ -16,10 +16,10 @@ use Rattle.task_text.specs.declared.token.Token.{Token}
 use Rattle.task_text.specs.declared.expr.Deep.{Deep}
 use Rattle.task_text.specs.Grammar.{symbol, name, number, sign_of, binds, prefix_of, prefix_binds, IsParenthesized, IsBracketed, IsExpr, IsValue}
 use Rattle.task_text.specs.Reading.{Found, Outcome, found, ◌>>=◌, between, begins_sign, begins_name, name_at, number_at}
-use Rattle.task_text.specs.ReadingExpr.{scalar, literal, indexed, parenthesized, prefixed, joined, begins_prefix, begins_operator, operator_at, prefix_at, literal_at, behind_name, named_of, paren_of, prefixed_of, part_of, joined_from, expr_at, value_at}
+use Rattle.task_text.specs.ReadingExpr.{scalar, joined, begins_prefix, begins_operator, operator_at, prefix_at, literal_at, behind_name, named_of, paren_of, prefixed_of, part_of, joined_from, expr_at, value_at}
 use Rattle.task_text.proofs.TokenLaws.{not_found, same_found, bind_found, name-sound, number-sound}
 use Rattle.task_text.proofs.Offs.{Off, off-found, off-after, IsSound, between-sound}
-use Rattle.task_text.proofs.OperatorLaws.{IsSign, operator-sound, prefix-sound, tight-enough, loose-enough, binds-below, begins-none}
+use Rattle.task_text.proofs.OperatorLaws.{operator-sound, prefix-sound, tight-enough, loose-enough, binds-below, begins-none}
 
 -- ---- the grammar and the depth of each variant
 

@@ -1,12 +1,12 @@
 -- A program that is read is in the grammar, and one in the grammar is read.
-use Rattle.std.proofs.Common.{◌≡◌, ℕ, ◌<◌, true, false, eqb, List, [], ◌∷◌, ◌++◌, length, Ok, Err, refl, sym, ap, subst, ◌∙◌, arith, ◌⊎◌, inl, inr, append_assoc, append-nil}
+use Rattle.std.proofs.Common.{◌≡◌, ℕ, ◌<◌, true, false, eqb, List, [], ◌∷◌, ◌++◌, length, Err, refl, sym, ap, subst, ◌∙◌, arith, ◌⊎◌, inl, inr, append-nil}
 use Rattle.std.proofs.lemmas.Bool.{cond-true, cond-false, cases_Bool, eqb-true, eqb-false, ne_eqb}
 use Rattle.task_ast.specs.declared.tree.Task.{Task}
 use Rattle.task_ast.specs.declared.tree.Program.{Program}
 use Rattle.task_text.specs.declared.token.Keyword.TheVariants as keyword
 use Rattle.task_text.specs.declared.token.Token.{Token}
 use Rattle.task_text.specs.Grammar.{IsDecl, IsProgram, AreAll}
-use Rattle.task_text.specs.Reading.{Found, found, ◌>>=◌, begins_reserved, begins_decl, is_empty}
+use Rattle.task_text.specs.Reading.{Found, found, begins_reserved, begins_decl, is_empty}
 use Rattle.task_text.specs.ReadingDecl.{decl_at}
 use Rattle.task_text.specs.ReadingProgram.{task_at, decls_at, tasks_at, whole, program_at}
 use Rattle.task_text.proofs.TokenLaws.{not_found, same_found, bind_found}

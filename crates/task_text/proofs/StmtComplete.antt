@@ -1,11 +1,9 @@
 -- Statements of the grammar are read.
-use Rattle.std.proofs.Common.{◌≡◌, ℕ, zero, suc, ◌+◌, ◌<◌, ◌≤◌, true, false, List, [], ◌∷◌, ◌++◌, length, Option, refl, sym, ap, subst, ◌∙◌, arith, ◌⊎◌, inl, inr, append_assoc, length-append}
+use Rattle.std.proofs.Common.{◌≡◌, ℕ, zero, suc, ◌+◌, false, List, [], ◌∷◌, ◌++◌, length, refl, sym, ap, subst, ◌∙◌, arith, inl, inr, append_assoc, length-append}
 use Rattle.std.specs.List.{AllByRecursion}
 use Rattle.std.proofs.lemmas.Bool.{cond-true, cond-false}
 use Rattle.ease_base.specs.declared.place.Pos.{Pos}
-use Rattle.task_ast.specs.declared.tree.Ann.{Ann}
 use Rattle.task_ast.specs.declared.tree.Name.{Name}
-use Rattle.task_ast.specs.declared.tree.Place.{Place}
 use Rattle.task_ast.specs.declared.tree.Expr.{Expr}
 use Rattle.task_ast.specs.declared.tree.Target.{Target}
 use Rattle.task_ast.specs.declared.tree.Target.TheVariants as target
@@ -16,18 +14,15 @@ use Rattle.task_ast.specs.Statements.{HoldsByParts, for_every}
 use Rattle.task_text.specs.declared.token.Keyword.TheVariants as keyword
 use Rattle.task_text.specs.declared.token.Sign.TheVariants as sign
 use Rattle.task_text.specs.declared.token.Token.{Token}
-use Rattle.task_text.specs.declared.cursor.Numeral.{Numeral}
-use Rattle.task_text.specs.declared.loop_head.Start.{Start}
-use Rattle.task_text.specs.declared.loop_head.Head.{Head}
-use Rattle.task_text.specs.Grammar.{symbol, reserved, number, name, IsBracketed, IsBraced, IsValue, AreAll, IsTarget, IsHead, IsElse, IsStmt}
+use Rattle.task_text.specs.Grammar.{symbol, reserved, number, name, IsBraced, AreAll, IsTarget, IsHead, IsElse, IsStmt}
 use Rattle.task_text.specs.GrammarRows.{IsChoice, IsLoop, stmt_if, stmt_loop}
-use Rattle.task_text.specs.Reading.{Outcome, found, ◌>>=◌, between, begins_sign, begins_reserved, begins_stmt, sign_at, reserved_at, name_at, number_at, same_at, zero_at, any_at}
+use Rattle.task_text.specs.Reading.{Outcome, found, between, begins_sign, begins_reserved, begins_stmt, sign_at, reserved_at, name_at, number_at, zero_at, any_at}
 use Rattle.task_text.specs.ReadingExpr.{value_at}
 use Rattle.task_text.specs.ReadingStmt.{target_of, target_at, assign_at, test_at, start_at, bound_at, step_at, head_at, stmts_of, block_of, else_of, choice_of, if_of, for_of, stmt_at}
-use Rattle.task_text.proofs.TokenLaws.{sign-complete, reserved-begins, reserved-complete, name-complete, number-complete, same-complete, zero-complete}
+use Rattle.task_text.proofs.TokenLaws.{sign-complete, reserved-complete, name-complete, same-complete}
 use Rattle.task_text.proofs.Offs.{bind-at, between-complete}
 use Rattle.task_text.proofs.ExprComplete.{measured, value-complete}
-use Rattle.task_text.proofs.Many.{many-complete, items-safe, NoElse, IsItemRead, Beginnings}
+use Rattle.task_text.proofs.Many.{many-complete, NoElse, IsItemRead, Beginnings}
 use Rattle.task_text.proofs.StmtSound.{IsTest, statements}
 
 -- ---- assignments

@@ -16,16 +16,16 @@ use Rattle.task_text.specs.declared.cursor.Numeral.{Numeral}
 use Rattle.task_text.specs.declared.expr.Deep.{Deep}
 use Rattle.task_text.specs.declared.loop_head.Start.{Start}
 use Rattle.task_text.specs.declared.loop_head.Head.{Head}
-use Rattle.task_text.specs.Grammar.{symbol, reserved, number, name, IsBetween, IsParenthesized, IsBracketed, IsBraced, IsValue, AreAll, IsTarget, IsHead, IsElse, IsStmt}
+use Rattle.task_text.specs.Grammar.{symbol, reserved, number, name, IsParenthesized, IsBraced, IsValue, AreAll, IsTarget, IsHead, IsElse, IsStmt}
 use Rattle.task_text.specs.GrammarRows.{IsChoice, IsLoop, stmt_if, stmt_loop}
-use Rattle.task_text.specs.Reading.{Found, Outcome, found, ◌>>=◌, between, begins_sign, begins_reserved, begins_stmt, is_acting, is_reserved, sign_at, reserved_at, name_at, number_at, same_at, zero_at, many}
+use Rattle.task_text.specs.Reading.{Found, Outcome, found, between, begins_sign, begins_reserved, begins_stmt, is_acting, is_reserved, sign_at, reserved_at, name_at, number_at, same_at, zero_at}
 use Rattle.task_text.specs.ReadingExpr.{value_at}
 use Rattle.task_text.specs.ReadingStmt.{target_of, target_at, assign_at, test_at, start_at, bound_at, step_at, head_at, stmts_of, block_of, else_of, choice_of, if_of, for_of, stmt_at}
 use Rattle.task_text.proofs.TokenLaws.{not_found, same_found, bind_found, sign-sound, reserved-sound, name-sound, number-sound, same-sound, zero-sound}
 use Rattle.task_text.proofs.Offs.{Off, off-found, off-after, off-takes, IsSound, between-sound}
 use Rattle.task_text.proofs.ExprSound.{Values, value-sound}
 use Rattle.task_text.proofs.Items.{Takes}
-use Rattle.task_text.proofs.Many.{many-sound, NoElse, Beginnings}
+use Rattle.task_text.proofs.Many.{many-sound, Beginnings}
 
 -- ---- assignments
 

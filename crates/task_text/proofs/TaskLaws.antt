@@ -1,11 +1,8 @@
 -- Tasks that are read are in the grammar, and those in the grammar are read.
-use Rattle.std.proofs.Common.{◌≡◌, ℕ, zero, suc, ◌+◌, ◌-◌, ◌<◌, ◌≤◌, true, false, cond, List, [], ◌∷◌, ◌++◌, length, Option, Err, refl, sym, ap, subst, ◌∙◌, arith, ◌⊎◌, inl, inr, append_assoc, length-append}
-use Rattle.std.specs.List.{AllByRecursion}
+use Rattle.std.proofs.Common.{◌≡◌, ℕ, zero, suc, ◌+◌, ◌-◌, ◌<◌, ◌≤◌, true, false, cond, List, [], ◌∷◌, ◌++◌, length, refl, sym, ap, ◌∙◌, arith, ◌⊎◌, inl, inr, append_assoc, length-append}
 use Rattle.std.proofs.lemmas.Bool.{cond-true, cond-false, cases_Bool}
 use Rattle.ease_base.specs.declared.place.Pos.{Pos}
-use Rattle.task_ast.specs.declared.tree.Name.{Name}
 use Rattle.task_ast.specs.declared.tree.Expr.{Expr}
-use Rattle.task_ast.specs.declared.tree.Target.{Target}
 use Rattle.task_ast.specs.declared.tree.Stmt.{Stmt}
 use Rattle.task_ast.specs.declared.tree.Stmt.TheVariants as stmt
 use Rattle.task_ast.specs.declared.tree.Exit.{Exit}
@@ -20,17 +17,17 @@ use Rattle.task_text.specs.declared.token.Token.{Token}
 use Rattle.task_text.specs.declared.task.Turn.{Turn}
 use Rattle.task_text.specs.declared.task.Turn.TheVariants as turn
 use Rattle.task_text.specs.declared.task.Body.{Body}
-use Rattle.task_text.specs.Grammar.{symbol, reserved, name, IsBraced, IsElse, IsValue, AreAll, IsStmt, IsExit, IsTask}
+use Rattle.task_text.specs.Grammar.{symbol, reserved, name, IsBraced, IsElse, AreAll, IsStmt, IsExit, IsTask}
 use Rattle.task_text.specs.GrammarRows.{IsChoice}
-use Rattle.task_text.specs.Reading.{Found, Outcome, found, ◌>>=◌, begins_sign, begins_reserved, begins_stmt, sign_at, reserved_at, name_at}
+use Rattle.task_text.specs.Reading.{Outcome, found, ◌>>=◌, begins_sign, begins_reserved, begins_stmt, sign_at, reserved_at, name_at}
 use Rattle.task_text.specs.ReadingStmt.{test_at, choice_of, stmt_at}
 use Rattle.task_text.specs.ReadingProgram.{leave_at, chosen_of, exit_at, acting, leaving, branch_of, turn_at, after_turn, body_at, task_at}
-use Rattle.task_text.proofs.TokenLaws.{not_found, same_found, bind_found, sign-sound, reserved-sound, name-sound, sign-complete, reserved-complete, name-complete}
+use Rattle.task_text.proofs.TokenLaws.{not_found, bind_found, sign-sound, reserved-sound, name-sound, sign-complete, reserved-complete, name-complete}
 use Rattle.task_text.proofs.Offs.{Off, off-found, off-after, off-takes, IsSound, bind-at}
 use Rattle.task_text.proofs.ExprComplete.{measured}
 use Rattle.task_text.proofs.Items.{Takes}
 use Rattle.task_text.proofs.Many.{NoElse, IsItemRead, Beginnings, all_of, items-safe}
-use Rattle.task_text.proofs.StmtSound.{IsTest, Tests, test-sound, choice-sound, if-is, stmt-sound, statements}
+use Rattle.task_text.proofs.StmtSound.{IsTest, test-sound, choice-sound, if-is, stmt-sound, statements}
 use Rattle.task_text.proofs.StmtComplete.{test-complete, choice-complete, choice-parts, inside, assign-begins, IsStmtRead, stmt-complete}
 use Rattle.task_text.proofs.ExitLaws.{leave-sound, chosen-sound, exit-sound, next-complete, stop-complete, Chosen, chosen-parts, chosen-complete, chosen-split, exit-complete}
 

@@ -1,5 +1,5 @@
 -- The statements of a task are read turn by turn.
-use Rattle.std.proofs.Common.{◌≡◌, ℕ, zero, suc, ◌<◌, ◌≤◌, List, [], ◌∷◌, ◌++◌, length, Ok, Err, refl, sym, ap, ◌∙◌, arith, append_assoc, append-nil}
+use Rattle.std.proofs.Common.{◌≡◌, ℕ, zero, suc, ◌≤◌, List, [], ◌∷◌, ◌++◌, length, Ok, Err, refl, sym, ap, ◌∙◌, arith, append_assoc, append-nil}
 use Rattle.task_ast.specs.declared.tree.Stmt.{Stmt}
 use Rattle.task_ast.specs.declared.tree.Exit.{Exit}
 use Rattle.task_text.specs.declared.token.Token.{Token}
@@ -10,7 +10,6 @@ use Rattle.task_text.specs.Reading.{Outcome, found, ◌>>=◌}
 use Rattle.task_text.specs.Reading.{reserved_at}
 use Rattle.task_text.specs.ReadingProgram.{leave_at, stop_at, turn_at, after_turn, body_at}
 use Rattle.task_text.proofs.TaskLaws.{turn-takes}
-use Rattle.task_text.proofs.TokenLaws.{not_found}
 
 -- what was read before stands before what is read
 abbrev pub behind : List Stmt → Outcome Body → Outcome Body

@@ -1,6 +1,6 @@
 -- How tokens are spelled: names, numbers, reserved words and signs (docs/LANGUAGE.md, "Tokens").
 use Rattle.std.specs.Prelude.{◌≡◌, ◌≢◌, ℕ, ◌+◌, ◌-◌, ◌*◌, ◌^◌, ◌<◌, ◌≤◌, Bool, false, not, ◌&&◌, ◌||◌, if◌then◌else◌, ◌==◌, nat_le, IsTrue, List, [], ◌∷◌, fold, Option, Some, None, codes}
-use Rattle.std.specs.Char.{is_ascii_alphabetic, is_ascii_digit, is_ascii_alphanumeric, is_ascii_hexdigit}
+use Rattle.std.specs.Char.{is_ascii_digit, is_ascii_hexdigit}
 use Rattle.std.specs.List.{list_all}
 use Rattle.task_ast.specs.NameToken.{is_name, is_word_byte}
 use Rattle.task_text.specs.declared.token.Keyword.{Keyword}
