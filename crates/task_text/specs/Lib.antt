@@ -9,4 +9,5 @@ pub mod ReadingExpr
 pub mod ReadingProgram
 pub mod ReadingStmt
 pub mod Reads
+pub mod ReservedWords
 pub mod Spelling
