@@ -1,5 +1,5 @@
 -- The grammar, computed on small expressions, declarations, statements and exits.
-use Rattle.std.proofs.Common.{◌≡◌, ◌≤◌, ℕ, List, [], ◌∷◌, ◌++◌, Some, codes, refl, sym, subst, arith, inl, inr}
+use Rattle.std.proofs.Common.{◌≤◌, ℕ, List, [], ◌∷◌, ◌++◌, Some, codes, refl, sym, subst, arith, inl, inr}
 use Rattle.ease_base.specs.declared.place.Pos.{Pos}
 use Rattle.task_ast.specs.declared.tree.Op1.TheVariants as op1
 use Rattle.task_ast.specs.declared.tree.Op2.TheVariants as op

@@ -1,5 +1,5 @@
 -- What is read stands at the front of the tokens.
-use Rattle.std.proofs.Common.{◌≡◌, ℕ, ◌<◌, true, false, List, [], ◌∷◌, ◌++◌, length, Ok, refl, sym, ap, subst, ◌∙◌, arith, append_assoc, length-append}
+use Rattle.std.proofs.Common.{◌≡◌, ◌<◌, List, [], ◌∷◌, ◌++◌, length, Ok, refl, sym, ap, subst, ◌∙◌, arith, append_assoc, length-append}
 use Rattle.ease_base.specs.declared.place.Pos.{Pos}
 use Rattle.task_text.specs.declared.token.Sign.{Sign}
 use Rattle.task_text.specs.declared.token.Token.{Token}

@@ -1,5 +1,5 @@
 -- The signs of operators: what is read is there, and what is there is read.
-use Rattle.std.proofs.Common.{◌≡◌, ℕ, suc, ◌+◌, ◌<◌, ◌≤◌, true, false, leb, List, [], ◌∷◌, Option, Some, None, Ok, Err, refl, sym, ap, ◌∙◌, arith}
+use Rattle.std.proofs.Common.{◌≡◌, ℕ, ◌<◌, ◌≤◌, true, false, leb, List, [], ◌∷◌, Option, Some, None, refl, sym, ap, ◌∙◌, arith}
 use Rattle.std.proofs.lemmas.Bool.{leb-true, leb-false, le-leb, lt-leb}
 use Rattle.ease_base.specs.declared.place.Pos.{Pos}
 use Rattle.task_ast.specs.declared.tree.Op1.{Op1}
@@ -12,7 +12,7 @@ use Rattle.task_text.specs.declared.token.Lexeme.{Lexeme}
 use Rattle.task_text.specs.declared.token.Lexeme.TheVariants as lexeme
 use Rattle.task_text.specs.declared.token.Token.{Token}
 use Rattle.task_text.specs.Grammar.{symbol, sign_of, binds, prefix_of, prefix_binds}
-use Rattle.task_text.specs.Reading.{Found, Outcome, found, taken}
+use Rattle.task_text.specs.Reading.{found, taken}
 use Rattle.task_text.specs.ReadingExpr.{binary, unary, binary_of, unary_of, is_tight, begins_operator, operator_at, prefix_at}
 use Rattle.task_text.proofs.TokenLaws.{not_found, same_found}
 

@@ -10,5 +10,6 @@ pub mod ReadingExpr
 pub mod ReadingProgram
 pub mod ReadingStmt
 pub mod Reads
+pub mod ReservedWords
 pub mod Spelling
 pub mod Unplaced

@@ -1,5 +1,5 @@
 -- How expressions are read off the tokens.
-use Rattle.std.specs.Prelude.{ℕ, zero, suc, ◌+◌, ◌-◌, max, nat_lt, nat_le, Bool, true, false, if◌then◌else◌, List, [], ◌∷◌, Option, Some, None, Err}
+use Rattle.std.specs.Prelude.{ℕ, zero, suc, ◌+◌, max, nat_lt, nat_le, Bool, true, false, if◌then◌else◌, List, [], ◌∷◌, Option, Some, None, Err}
 use Rattle.task_ast.specs.declared.tree.Op1.{Op1}
 use Rattle.task_ast.specs.declared.tree.Op1.TheVariants as op1
 use Rattle.task_ast.specs.declared.tree.Op2.{Op2}
@@ -9,14 +9,13 @@ use Rattle.task_ast.specs.declared.tree.Expr.TheVariants as expr
 use Rattle.task_ast.specs.Readable.{deepest}
 use Rattle.task_text.specs.declared.token.Sign.{Sign}
 use Rattle.task_text.specs.declared.token.Sign.TheVariants as sign
-use Rattle.task_text.specs.contracts.token.Sign.{the_type as signs}
 use Rattle.task_text.specs.declared.token.Lexeme.{Lexeme}
 use Rattle.task_text.specs.declared.token.Lexeme.TheVariants as lexeme
 use Rattle.task_text.specs.declared.token.Token.{Token}
 use Rattle.task_text.specs.declared.cursor.Numeral.{Numeral}
 use Rattle.task_text.specs.declared.expr.Deep.{Deep}
 use Rattle.task_text.specs.Grammar.{binds, prefix_binds}
-use Rattle.task_text.specs.Reading.{Outcome, between, found, ◌>>=◌, begins_sign, begins_name, sign_at, taken, name_at, number_at, many}
+use Rattle.task_text.specs.Reading.{Outcome, between, found, ◌>>=◌, begins_sign, begins_name, taken, name_at, number_at}
 
 -- the binary operator that a sign is
 abbrev pub binary : Sign → Option Op2

@@ -1,5 +1,5 @@
 -- How statements are read off the tokens.
-use Rattle.std.specs.Prelude.{ℕ, zero, suc, ◌+◌, ◌-◌, if◌then◌else◌, List, [], length, Err}
+use Rattle.std.specs.Prelude.{ℕ, zero, suc, if◌then◌else◌, List, [], length, Err}
 use Rattle.ease_base.specs.declared.place.Pos.{Pos}
 use Rattle.task_ast.specs.declared.tree.Name.{Name}
 use Rattle.task_ast.specs.declared.tree.Expr.{Expr}

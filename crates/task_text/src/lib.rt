@@ -21,5 +21,7 @@ mod tests;
 mod token;
 
 pub use error::TextError;
-pub use read::{one_division, one_tree, read_or_refused, read_program};
+pub use read::{
+    one_division, one_tree, read_or_refused, read_program, reserved_words_are_keywords,
+};
 pub use token::{Keyword, Lexeme, Sign, Token};

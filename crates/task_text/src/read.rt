@@ -1,7 +1,10 @@
 //! Reads a program from its bytes.
-ghost use Rattle.std.specs.Prelude.{◌≡◌, ◌<◌, ◌⊎◌, length, List, ℕ, IfOk, IfErr, Ok, Err};
+ghost use Rattle.std.specs.Prelude.{◌≡◌, ◌↔◌, ◌<◌, ◌⊎◌, length, List, ℕ, IfOk, IfErr, Ok, Err};
 ghost use Rattle.ease_base.specs.declared.place.Pos.{Pos};
 ghost use Rattle.task_ast.specs.declared.tree.Program.{Program};
+ghost use Rattle.op_table.specs.Reserved.{IsReserved};
+ghost use Rattle.task_text.specs.Spelling.{letters};
+ghost use Rattle.task_text.specs.declared.token.Keyword.{Keyword};
 ghost use Rattle.task_text.specs.declared.error.TextError.{TextError};
 ghost use Rattle.task_text.specs.declared.error.TextError.TheVariants.{Syntax, NumberTooWide};
 ghost use Rattle.task_text.specs.Division.{Piece, Divides, BreaksAt};
@@ -95,4 +98,9 @@ pub fn one_tree()
 pub fn read_or_refused()
     ensures one { (text : List ℕ) → ((p : Program) × Reads text p) ⊎ ((e : TextError) × Refuses text e) }
     ensures not_both { (text : List ℕ) (p : Program) (e : TextError) → Reads text p → Refuses text e → ⊥ }
+{}
+
+/// The words that are no names are those of the table of reserved words.
+pub fn reserved_words_are_keywords()
+    ensures { (word : List ℕ) → IsReserved word ↔ ((k : Keyword) × (word ≡ letters k)) }
 {}

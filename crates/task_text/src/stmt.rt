@@ -1,4 +1,5 @@
 //! Reads statements.
+ghost use Rattle.std.specs.Prelude.{◌≤◌};
 ghost use Rattle.task_text.specs.Reading.{Gives, between};
 ghost use Rattle.task_text.specs.ReadingExpr.{value_at};
 ghost use Rattle.task_text.specs.ReadingStmt as spec;
@@ -75,6 +76,7 @@ impl Cursor<'_> {
     /// Takes statements up to what is none; in each so many braces may be nested, itself counted.
     #[cycle(stmt)]
     fn stmts(&mut self, alloc: Global, nesting: u32) -> Result<List<Stmt>, ReadError>
+        requires { nesting ≤ 16 }
         ensures { Gives (spec.stmts_of (spec.stmt_at nesting) self.old) result self.new }
     {
         let mut stmts = List::new(alloc);
@@ -89,6 +91,7 @@ impl Cursor<'_> {
     #[cycle(stmt)]
     #[tactic(auto, unfolding(crate::specs::Reading::between))]
     fn block(&mut self, alloc: Global, nesting: u32) -> Result<List<Stmt>, ReadError>
+        requires { nesting ≤ 16 }
         ensures { Gives (spec.block_of (spec.stmt_at nesting) self.old) result self.new }
     {
         self.sign(Sign::BraceOpen)?;
@@ -101,6 +104,7 @@ impl Cursor<'_> {
     #[cycle(stmt)]
     #[tactic(auto, unfolding(crate::specs::ReadingStmt::else_of))]
     fn otherwise(&mut self, alloc: Global, nesting: u32) -> Result<List<Stmt>, ReadError>
+        requires { nesting ≤ 16 }
         ensures { Gives (spec.else_of (spec.stmt_at nesting) self.old) result self.new }
     {
         if !self.begins_reserved(Keyword::Else) {
@@ -119,6 +123,7 @@ impl Cursor<'_> {
         nesting: u32,
         condition: Expr,
     ) -> Result<Stmt, ReadError>
+        requires { nesting ≤ 16 }
         ensures { Gives (spec.choice_of (spec.stmt_at nesting) condition self.old) result self.new }
     {
         let first = self.block(alloc, nesting)?;
@@ -130,6 +135,7 @@ impl Cursor<'_> {
     #[cycle(stmt)]
     #[tactic(auto, unfolding(crate::specs::ReadingStmt::if_of))]
     fn if_stmt(&mut self, alloc: Global, nesting: u32) -> Result<Stmt, ReadError>
+        requires { nesting ≤ 16 }
         ensures { Gives (spec.if_of (spec.stmt_at nesting) self.old) result self.new }
     {
         let condition = self.test(alloc)?;
@@ -140,6 +146,7 @@ impl Cursor<'_> {
     #[cycle(stmt)]
     #[tactic(auto, unfolding(crate::specs::ReadingStmt::for_of))]
     fn for_stmt(&mut self, alloc: Global, nesting: u32) -> Result<Stmt, ReadError>
+        requires { nesting ≤ 16 }
         ensures { Gives (spec.for_of (spec.stmt_at nesting) self.old) result self.new }
     {
         let head = self.loop_head(alloc)?;
@@ -157,6 +164,7 @@ impl Cursor<'_> {
     #[cycle(stmt)]
     #[tactic(auto, unfolding(crate::specs::ReadingStmt::stmt_at))]
     pub fn stmt(&mut self, alloc: Global, nesting: u32) -> Result<Stmt, ReadError>
+        requires { nesting ≤ 16 }
         ensures { Gives (spec.stmt_at nesting self.old) result self.new }
     {
         if nesting == 0 {

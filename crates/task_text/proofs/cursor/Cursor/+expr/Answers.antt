@@ -1,7 +1,6 @@
-use Rattle.std.proofs.Common.{Err, arith, sym, ap, subst, ◌∙◌}
+use Rattle.std.proofs.Common.{arith, sym, ap, ◌∙◌}
 use Rattle.std.proofs.lemmas.Result.{err_from_is_err_and}
-use Rattle.task_text.specs.Reading.{Gives}
-use Rattle.task_text.proofs.Terms.{Terms-none, Terms-next, Terms-broken, Terms-no_sign, Terms-too_deep, Terms-all, expr-zero, expr-none, Gives-exit, Gives-no_memory}
+use Rattle.task_text.proofs.Terms.{Terms-none, Terms-next, Terms-broken, Terms-no_sign, Terms-too_deep, Terms-all, expr-zero, expr-none, Gives-exit}
 use Rattle.task_text.proofs.cursor.Cursor.+expr.Goals as goal
 
 pub expr-returns-then-allowed-eq0-clause-value : goal.expr-returns-then-allowed-eq0-clause-value
