@@ -18,6 +18,7 @@ pub mod Many
 pub mod Numerals
 pub mod Offs
 pub mod OperatorLaws
+pub mod PrintSteps
 pub mod PrintedExprs
 pub mod PrintedLaw
 pub mod PrintedPrograms

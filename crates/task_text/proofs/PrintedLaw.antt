@@ -26,7 +26,7 @@ use Rattle.task_text.specs.declared.token.Lexeme.{Lexeme}
 use Rattle.task_text.specs.declared.token.Token.{Token}
 use Rattle.task_text.specs.Division.{start, tokens_of}
 use Rattle.task_text.specs.Grammar.{IsBetween, IsBraced, IsExpr, IsValue, AreAll, IsNumber, IsSize, IsNextValue, AreValues, IsInit, IsDecl, IsTarget, IsHead, IsElse, IsStmt, AreStmts, IsExit, IsTask, IsProgram}
-use Rattle.task_text.specs.Printed.{word, mark, named, numbered, parenthesized, head_tokens, braced, body_tokens, expr_tokens, target_tokens, else_tokens, stmt_tokens, row_tokens, exit_tokens, kind_tokens, size_tokens, next_tokens, init_tokens, decl_tokens, task_tokens, program_tokens, printed}
+use Rattle.task_text.specs.Printed.{word, mark, named, numbered, parenthesized, head_tokens, braced, body_tokens, expr_tokens, target_tokens, else_row, stmt_tokens, row_tokens, exit_tokens, kind_tokens, size_tokens, next_tokens, init_tokens, decl_tokens, task_tokens, program_tokens, printed}
 use Rattle.task_text.specs.Reads.{Reads}
 use Rattle.task_text.specs.Unplaced.{unplaced}
 use Rattle.task_text.proofs.FairTokens.{IsFair, fair_text}
@@ -70,9 +70,9 @@ target_printable (target.Scalar x) tokens is fair = ((subst AreFair is fair).0, 
 target_printable (target.Element x i) tokens is fair =
     let all = subst AreFair is.1 fair in (all.0, between_printable sign.BracketOpen sign.BracketClose i is.0 is.2 all.1)
 
-else_printable : (xs : List Lexeme) → ArePrintable xs → ArePrintable (else_tokens xs)
-else_printable [] h = tt
-else_printable (x ∷ xs) h = (tt, wrapped sign.BraceOpen sign.BraceClose (x ∷ xs) h)
+else_printable : {n : _} (row : Row_of-Stmt n) → ArePrintable (row_tokens row) → ArePrintable (else_row row)
+else_printable end_of-Stmt h = tt
+else_printable (more_of-Stmt s rest) h = (tt, wrapped sign.BraceOpen sign.BraceClose (stmt_tokens s ++ row_tokens rest) h)
 
 -- what may stand behind an `if`, where what stands in braces is printable
 else_part : (xs : List Lexeme) (P : List Token → Type 0) → ((tokens : List Token) → P tokens → AreFair tokens → ArePrintable xs)
@@ -104,9 +104,9 @@ mutual
       let second = else_part (row_tokens no_row) (AreStmts (1 + level) no_row) (row_printable (1 + level) no_row) is.3 is.8 (fair_back is.2 is.3 rest) in
       (
         tt,
-        both (parenthesized (expr_tokens c) ++ braced (row_tokens yes_row)) (else_tokens (row_tokens no_row))
+        both (parenthesized (expr_tokens c) ++ braced (row_tokens yes_row)) (else_row no_row)
         (both (parenthesized (expr_tokens c)) (braced (row_tokens yes_row)) (between_printable sign.ParenOpen sign.ParenClose c is.1 is.6 (fair_front is.1 (is.2 ++ is.3) all)) (wrapped sign.BraceOpen sign.BraceClose (row_tokens yes_row) first))
-        (else_printable (row_tokens no_row) second),
+        (else_printable no_row second),
       )
   stmt_printable level (stmt.For' i turns at m row word) tokens is fair =
       let all = subst AreFair is.2 fair in
@@ -211,3 +211,8 @@ read_again text p reads =
     let d = divides_so (program_tokens p) (program_printable p (tokens_of start reads.pieces) reads.program fair) in
     let again = program_again p (tokens_of start reads.pieces) (tokens_of start d.pieces) reads.program d.are in
     (again.0, record { pieces = d.pieces; divides = d.divides; narrow = d.narrow; program = again.1 }, again.2)
+
+-- the same of the text itself
+pub read_printed : (p : Program) (text : List ℕ) → (source : List ℕ) × Reads source p → text ≡ printed p → (q : Program) × Reads text q × (unplaced q ≡ unplaced p)
+read_printed p text read is =
+    let again = read_again read.0 p read.1 in (again.0, subst (λ t. Reads t again.0) (sym is) again.1, again.2)

@@ -18,7 +18,7 @@ use Rattle.task_text.specs.declared.token.Lexeme.TheVariants as lexeme
 use Rattle.task_text.specs.declared.token.Token.{Token}
 use Rattle.task_text.specs.Grammar.{reserved, symbol, number, name, IsBetween, IsParenthesized, IsBraced, IsValue, AreAll, IsTarget, IsHead, IsElse, IsStmt, AreStmts, IsExit}
 use Rattle.task_text.specs.GrammarRows.{IsChoice, IsLoop, stmt_if, stmt_loop}
-use Rattle.task_text.specs.Printed.{word, mark, named, numbered, parenthesized, braced, expr_tokens, target_tokens, head_tokens, else_tokens, stmt_tokens, row_tokens, exit_tokens}
+use Rattle.task_text.specs.Printed.{word, mark, named, numbered, parenthesized, braced, expr_tokens, target_tokens, setting, testing, stepping, head_tokens, else_row, stmt_tokens, row_tokens, exit_tokens}
 use Rattle.task_text.specs.Unplaced.{somewhere, bare_name, bare_expr, bare_target, bare_stmt, bare_row, bare_body, bare_exit, bare_if, bare_for}
 use Rattle.task_text.proofs.Lexemes.{lexemes, placed, First, first_of, Parts, parts_of, none_of, one_of, three_of, four_of, five_of, six_of, Inside, inside_of}
 use Rattle.task_text.proofs.PrintedExprs.{between_again, append_over, BetweenAgain, value_again, value_between, target_again}
@@ -143,16 +143,6 @@ record HeadAgain (i : Name) (turns : ℕ) (tokens : List Token) : Type 0 where
   word_at : Pos
   is : IsHead (record { text = i.text; at = first }) turns at word_at tokens
 
--- `for ( i = 0 ;`, `i < turns ;` and `i ++ )`
-abbrev setting : Name → List Lexeme
-setting i = word keyword.For ++ mark sign.ParenOpen ++ named i ++ mark sign.Equal ++ numbered 0 ++ mark sign.Semicolon
-
-abbrev testing : Name → ℕ → List Lexeme
-testing i turns = named i ++ mark sign.Less ++ numbered turns ++ mark sign.Semicolon
-
-abbrev stepping : Name → List Lexeme
-stepping i = named i ++ mark sign.PlusPlus ++ mark sign.ParenClose
-
 head_again : (i : Name) (turns : ℕ) (tokens : List Token) → lexemes tokens ≡ head_tokens i turns → HeadAgain i turns tokens
 head_again i turns tokens is =
     let p = parts_of tokens (setting i) (testing i turns ++ stepping i) is in
@@ -190,23 +180,10 @@ braced_again bare level tokens xs b again =
     record { trees = again.trees; are = between_again sign.BraceOpen sign.BraceClose (AreAll (IsStmt level) again.trees) tokens xs b again.are; same = again.same }
 
 -- what may stand behind an `if` again
-record ElseAgain (bare : List Stmt) (level : ℕ) (tokens : List Token) : Type 0 where
-  trees : List Stmt
-  are : IsElse (AreAll (IsStmt level) trees) tokens
-  same : bare_body trees ≡ bare
-
--- the statements that stand behind an `if`, or none, where their tokens are those of a body
-else_again : (bare : List Stmt) (level : ℕ) (xs : List Lexeme) → ((tokens : List Token) → lexemes tokens ≡ xs → BodyAgain bare level tokens)
-    → (tokens : List Token) → lexemes tokens ≡ else_tokens xs → ElseAgain bare level tokens
-else_again bare level [] each tokens is =
-    let none = none_of tokens is in
-    let again = each [] refl in
-    record { trees = again.trees; are = inl (none, again.are); same = again.same }
-else_again bare level (x ∷ xs) each tokens is =
-    let a = first_of tokens (lexeme.Reserved keyword.Else) (braced (x ∷ xs)) is in
-    let b = inside_of a.behind sign.BraceOpen sign.BraceClose (x ∷ xs) a.back in
-    let again = braced_again bare level a.behind (x ∷ xs) b (each b.inner b.inside) in
-    record { trees = again.trees; are = inr (a.at, a.behind, a.whole, again.are); same = again.same }
+pub record ElseAgain (bare : List Stmt) (level : ℕ) (tokens : List Token) : Type 0 where
+  pub trees : List Stmt
+  pub are : IsElse (AreAll (IsStmt level) trees) tokens
+  pub same : bare_body trees ≡ bare
 
 -- the row that stood behind an `if` stood somewhere
 else_stood : (P : List Token → Type 0) (tokens : List Token) → IsElse P tokens → (some : List Token) × P some
@@ -240,8 +217,8 @@ mutual
   stmt_again (stmt.If' c m yes_row n no_row) level old tokens was is =
       let test = parenthesized (expr_tokens c) in
       let body = braced (row_tokens yes_row) in
-      let a = first_of tokens (lexeme.Reserved keyword.If) (test ++ body ++ else_tokens (row_tokens no_row)) is in
-      let b = parts_of a.behind (test ++ body) (else_tokens (row_tokens no_row)) a.back in
+      let a = first_of tokens (lexeme.Reserved keyword.If) (test ++ body ++ else_row no_row) is in
+      let b = parts_of a.behind (test ++ body) (else_row no_row) a.back in
       let d = parts_of b.front test body b.firsts in
       let i = inside_of d.back sign.BraceOpen sign.BraceClose (row_tokens yes_row) d.others in
       let stood = else_stood (AreStmts (1 + level) no_row) was.3 was.8 in
@@ -249,7 +226,7 @@ mutual
       (a.whole ∙ ap (λ ts. reserved keyword.If a.at ∷ ts) (b.whole ∙ ap (λ ts. ts ++ b.back) d.whole ∙ append_assoc d.front d.back b.back))
       was.5 (value_between sign.ParenOpen sign.ParenClose c was.1 d.front was.6 d.firsts)
       (braced_again (bare_row yes_row) (1 + level) d.back (row_tokens yes_row) i (row_again yes_row (1 + level) was.7.inner i.inner was.7.inside i.inside))
-      (else_again (bare_row no_row) (1 + level) (row_tokens no_row) (λ ts ls. row_again no_row (1 + level) stood.0 ts stood.1 ls) b.back b.others) in
+      (else_again no_row (1 + level) stood.0 b.back stood.1 b.others) in
       record { tree = made.0; is = made.1; same = made.2 }
   stmt_again (stmt.For' i turns at m row word_at) level old tokens was is =
       let a = parts_of tokens (head_tokens i turns) (braced (row_tokens row)) is in
@@ -269,3 +246,23 @@ mutual
       let first = stmt_again s level was.0 a.front was.3 a.firsts in
       let others = row_again rest level was.1 a.back was.4 a.others in
       record { trees = first.tree ∷ others.trees; are = (a.front, a.back, a.whole, first.is, others.are); same = λ i. first.same i ∷ others.same i }
+
+  -- and of what stands behind an `if`
+  pub else_again : {n : _} (row : Row_of-Stmt n) (level : ℕ) (old tokens : List Token) → AreStmts level row old → lexemes tokens ≡ else_row row → ElseAgain (bare_row row) level tokens
+  else_again end_of-Stmt level old tokens was is = record { trees = []; are = inl (none_of tokens is, refl); same = refl }
+  else_again (more_of-Stmt s rest) level old tokens was is =
+      let a = first_of tokens (lexeme.Reserved keyword.Else) (braced (stmt_tokens s ++ row_tokens rest)) is in
+      let b = inside_of a.behind sign.BraceOpen sign.BraceClose (stmt_tokens s ++ row_tokens rest) a.back in
+      let p = parts_of b.inner (stmt_tokens s) (row_tokens rest) b.inside in
+      let first = stmt_again s level was.0 p.front was.3 p.firsts in
+      let others = row_again rest level was.1 p.back was.4 p.others in
+      record {
+        trees = first.tree ∷ others.trees;
+        are = inr (
+          a.at,
+          a.behind,
+          a.whole,
+          between_again sign.BraceOpen sign.BraceClose (AreAll (IsStmt level) (first.tree ∷ others.trees)) a.behind (stmt_tokens s ++ row_tokens rest) b (p.front, p.back, p.whole, first.is, others.are),
+        );
+        same = λ i. first.same i ∷ others.same i;
+      }

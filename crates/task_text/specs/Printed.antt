@@ -1,6 +1,6 @@
 -- The printed text of a program: its tokens with a space between any two, and a line feed at the end
 -- (docs/LANGUAGE.md, "The printed form").
-use Rattle.std.specs.Prelude.{◌≡◌, ℕ, ◌+◌, List, [], ◌∷◌, ◌++◌, Option, Some, None, decimal}
+use Rattle.std.specs.Prelude.{◌≡◌, ℕ, ◌+◌, ◌-◌, List, [], ◌∷◌, ◌++◌, length, take, Option, Some, None, decimal}
 use Rattle.std.specs.List.{flat_map}
 use Rattle.std.proofs.Common.{refl, ap, ◌∙◌}
 use Rattle.ease_base.specs.declared.place.Pos.{Pos}
@@ -67,22 +67,25 @@ abbrev pub target_tokens : Target → List Lexeme
 target_tokens (target.Scalar x) = named x
 target_tokens (target.Element x i) = named x ++ bracketed (expr_tokens i)
 
--- `for ( i = 0 ; i < turns ; i ++ )`
-abbrev pub head_tokens : Name → ℕ → List Lexeme
-head_tokens i turns =
-    word keyword.For ++ mark sign.ParenOpen ++ named i ++ mark sign.Equal ++ numbered 0 ++ mark sign.Semicolon
-    ++ named i ++ mark sign.Less ++ numbered turns ++ mark sign.Semicolon ++ named i ++ mark sign.PlusPlus ++ mark sign.ParenClose
+-- `for ( i = 0 ;`, `i < turns ;` and `i ++ )`
+abbrev pub setting : Name → List Lexeme
+setting i = word keyword.For ++ mark sign.ParenOpen ++ named i ++ mark sign.Equal ++ numbered 0 ++ mark sign.Semicolon
 
--- nothing for no tokens, else `else { tokens }`
-abbrev pub else_tokens : List Lexeme → List Lexeme
-else_tokens [] = []
-else_tokens (t ∷ ts) = word keyword.Else ++ braced (t ∷ ts)
+abbrev pub testing : Name → ℕ → List Lexeme
+testing i turns = named i ++ mark sign.Less ++ numbered turns ++ mark sign.Semicolon
+
+abbrev pub stepping : Name → List Lexeme
+stepping i = named i ++ mark sign.PlusPlus ++ mark sign.ParenClose
+
+-- the head of a loop
+abbrev pub head_tokens : Name → ℕ → List Lexeme
+head_tokens i turns = setting i ++ testing i turns ++ stepping i
 
 abbrev mutual
   -- the tokens of a statement; of today's language
   pub stmt_tokens : Stmt → List Lexeme
   stmt_tokens (stmt.Assign x e) = target_tokens x ++ mark sign.Equal ++ expr_tokens e ++ mark sign.Semicolon
-  stmt_tokens (stmt.If' c m yes_row n no_row) = word keyword.If ++ parenthesized (expr_tokens c) ++ braced (row_tokens yes_row) ++ else_tokens (row_tokens no_row)
+  stmt_tokens (stmt.If' c m yes_row n no_row) = word keyword.If ++ parenthesized (expr_tokens c) ++ braced (row_tokens yes_row) ++ else_row no_row
   stmt_tokens (stmt.For' i turns at m row word_at) = head_tokens i turns ++ braced (row_tokens row)
   stmt_tokens _ = []
 
@@ -91,9 +94,19 @@ abbrev mutual
   row_tokens end_of-Stmt = []
   row_tokens (more_of-Stmt s rest) = stmt_tokens s ++ row_tokens rest
 
+  -- nothing for no statements, else `else { statements }`
+  pub else_row : {n : _} → Row_of-Stmt n → List Lexeme
+  else_row end_of-Stmt = []
+  else_row (more_of-Stmt s rest) = word keyword.Else ++ braced (stmt_tokens s ++ row_tokens rest)
+
 -- the tokens of statements, one after another
 abbrev pub body_tokens : List Stmt → List Lexeme
 body_tokens body = flat_map stmt_tokens body
+
+-- nothing for no statements, else `else { statements }`
+abbrev pub else_tokens : List Stmt → List Lexeme
+else_tokens [] = []
+else_tokens (s ∷ body) = word keyword.Else ++ braced (body_tokens (s ∷ body))
 
 -- the tokens of an exit
 abbrev pub exit_tokens : Exit → List Lexeme
@@ -152,6 +165,10 @@ trailed xs = flat_map (λ x. spelling x ++ 32 ∷ []) xs
 abbrev pub Puts : List ℕ → List Lexeme → List ℕ → Type 0
 Puts before xs after = after ≡ before ++ trailed xs
 
+-- a text with a line feed in place of its last byte
+abbrev pub with_end : List ℕ → List ℕ
+with_end text = take (length text - 1) text ++ 10 ∷ []
+
 -- tokens with a space behind each but the last, and a line feed behind that
 abbrev pub spaced : List Lexeme → List ℕ
 spaced [] = []
@@ -170,10 +187,17 @@ row_is n (more_of-Stmt s rest) = ap (λ (ts : List Lexeme). stmt_tokens s ++ ts)
 body_is : (body : List Stmt) → row_tokens (row_of body).1 ≡ body_tokens body
 body_is body = row_is (row_of body).0 (row_of body).1 ∙ ap body_tokens (row_shows body)
 
+else_is : (n : _) (row : Row_of-Stmt n) → else_row row ≡ else_tokens (items-the_row-Stmt n row)
+else_is n end_of-Stmt = refl
+else_is n (more_of-Stmt s rest) = ap (λ (ts : List Lexeme). word keyword.Else ++ braced (stmt_tokens s ++ ts)) (row_is _ rest)
+
+else_body_is : (body : List Stmt) → else_row (row_of body).1 ≡ else_tokens body
+else_body_is body = else_is (row_of body).0 (row_of body).1 ∙ ap else_tokens (row_shows body)
+
 -- the tokens of an `if`
 pub tokens_if : (c : Expr) (yes_part no_part : List Stmt) → stmt_tokens (stmt.If c yes_part no_part)
-    ≡ word keyword.If ++ parenthesized (expr_tokens c) ++ braced (body_tokens yes_part) ++ else_tokens (body_tokens no_part)
-tokens_if c yes_part no_part = λ i. word keyword.If ++ parenthesized (expr_tokens c) ++ braced (body_is yes_part i) ++ else_tokens (body_is no_part i)
+    ≡ word keyword.If ++ parenthesized (expr_tokens c) ++ braced (body_tokens yes_part) ++ else_tokens no_part
+tokens_if c yes_part no_part = λ i. word keyword.If ++ parenthesized (expr_tokens c) ++ braced (body_is yes_part i) ++ else_body_is no_part i
 
 -- the tokens of a loop
 pub tokens_for : (i : Name) (turns : ℕ) (at : Pos) (body : List Stmt) (word_at : Pos) → stmt_tokens (stmt.For i turns at body word_at) ≡ head_tokens i turns ++ braced (body_tokens body)

@@ -10,7 +10,9 @@ mod exit;
 mod expr;
 mod loop_head;
 mod operator;
+mod print;
 mod print_expr;
+mod print_stmt;
 mod put;
 mod program;
 mod read;
@@ -21,6 +23,7 @@ mod tests;
 mod token;
 
 pub use error::TextError;
+pub use print::print_program;
 pub use read::{
     one_division, one_tree, read_or_refused, read_program, reserved_words_are_keywords,
 };
