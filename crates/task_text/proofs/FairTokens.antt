@@ -1,6 +1,6 @@
 -- The tokens of a text: names are name tokens, numbers fit a word, and there are no more of them than bytes.
-use Rattle.std.proofs.Common.{◌≡◌, ◌≢◌, ℕ, zero, suc, ◌+◌, ◌^◌, ◌<◌, ◌≤◌, Bool, true, false, List, [], ◌∷◌, ◌++◌, length, Option, Some, None, refl, sym, ap, subst, ◌∙◌, arith, is_some, true≢false}
-use Rattle.std.specs.Prelude.{slice_get, IsTrue}
+use Rattle.std.proofs.Common.{◌≡◌, ◌≢◌, ℕ, zero, suc, ◌<◌, ◌≤◌, List, [], ◌∷◌, ◌++◌, length, Option, Some, None, sym, ap, subst, arith, is_some, true≢false}
+use Rattle.std.specs.Prelude.{slice_get}
 use Rattle.std.specs.List.{AllByRecursion}
 use Rattle.std.proofs.lemmas.List.{length-append}
 use Rattle.op_table.specs.Reserved.{reserved_words, IsReserved}
@@ -15,7 +15,7 @@ use Rattle.task_text.specs.declared.token.Lexeme.{Lexeme}
 use Rattle.task_text.specs.declared.token.Lexeme.TheVariants as lexeme
 use Rattle.task_text.specs.declared.token.Token.{Token}
 use Rattle.task_text.specs.Spelling.{letters, marks, numeral, Spells}
-use Rattle.task_text.specs.Division.{Piece, Fits, joined, ArePieces, BeginsWith, Divides, start, behind, tokens_of}
+use Rattle.task_text.specs.Division.{Piece, Fits, joined, ArePieces, Divides, start, behind, tokens_of}
 
 -- a name is a name token, and a number fits a word
 abbrev pub IsFairLexeme : Lexeme → Type 0

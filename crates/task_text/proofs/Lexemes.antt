@@ -1,5 +1,5 @@
 -- Tokens by their lexemes: a list of tokens falls apart as its lexemes do.
-use Rattle.std.proofs.Common.{◌≡◌, List, [], ◌∷◌, ◌++◌, map, length, refl, sym, ap, ◌∙◌, arith}
+use Rattle.std.proofs.Common.{◌≡◌, List, [], ◌∷◌, ◌++◌, map, length, refl, ap, ◌∙◌, arith}
 use Rattle.ease_base.specs.declared.place.Pos.{Pos}
 use Rattle.task_text.specs.declared.token.Sign.{Sign}
 use Rattle.task_text.specs.declared.token.Lexeme.{Lexeme}

@@ -9,20 +9,16 @@ use Rattle.task_ast.specs.declared.tree.Expr.TheVariants as expr
 use Rattle.task_ast.specs.declared.tree.Expr.TheBlock.{hidden-the_row-Expr-0, shape-the_row-Expr-0}
 use Rattle.task_ast.specs.declared.tree.Target.{Target}
 use Rattle.task_ast.specs.declared.tree.Target.TheVariants as target
-use Rattle.task_ast.specs.declared.tree.Exit.{Exit, end_of-Exit, more_of-Exit}
-use Rattle.task_ast.specs.declared.tree.Exit.TheVariants as exit
-use Rattle.task_ast.specs.declared.tree.Exit.TheBlock.{hidden-the_row-Exit-0, shape-the_row-Exit-0}
-use Rattle.task_ast.specs.Readable.{depth, deepest, most_nested}
-use Rattle.task_text.specs.declared.token.Keyword.TheVariants as keyword
+use Rattle.task_ast.specs.Readable.{depth, deepest}
 use Rattle.task_text.specs.declared.token.Sign.{Sign}
 use Rattle.task_text.specs.declared.token.Sign.TheVariants as sign
 use Rattle.task_text.specs.declared.token.Lexeme.{Lexeme}
 use Rattle.task_text.specs.declared.token.Lexeme.TheVariants as lexeme
 use Rattle.task_text.specs.declared.token.Token.{Token}
-use Rattle.task_text.specs.Grammar.{sign_of, prefix_of, prefix_binds, binds, IsBetween, IsExpr, IsValue, IsTarget, IsExit}
-use Rattle.task_text.specs.Printed.{mark, parenthesized, expr_tokens, target_tokens, exit_tokens}
-use Rattle.task_text.specs.Unplaced.{somewhere, bare_name, bare_expr, bare_target, bare_exit}
-use Rattle.task_text.proofs.Lexemes.{lexemes, placed, First, first_of, Parts, parts_of, one_of, Inside, inside_of}
+use Rattle.task_text.specs.Grammar.{sign_of, prefix_of, prefix_binds, binds, IsBetween, IsExpr, IsValue, IsTarget}
+use Rattle.task_text.specs.Printed.{expr_tokens, target_tokens}
+use Rattle.task_text.specs.Unplaced.{bare_name, bare_expr, bare_target}
+use Rattle.task_text.proofs.Lexemes.{lexemes, First, first_of, Parts, parts_of, one_of, Inside, inside_of}
 use denote.Hole.Carrier.{hidden}
 
 -- the tokens are an expression that is the same up to places, and as deep

@@ -1,7 +1,6 @@
 -- A printed program that some text has is read again, up to places.
-use Rattle.std.proofs.Common.{◌≡◌, ◌⊎◌, inl, inr, ◌∙◌, ℕ, ◌+◌, ◌^◌, ◌<◌, List, [], ◌∷◌, ◌++◌, length, Option, Some, None, refl, sym, ap, subst, arith}
+use Rattle.std.proofs.Common.{◌≡◌, ◌⊎◌, inl, inr, ℕ, ◌+◌, List, [], ◌∷◌, ◌++◌, length, Option, Some, None, sym, ap, subst, arith}
 use Rattle.std.specs.List.{AllByRecursion, flat_map}
-use Rattle.ease_base.specs.declared.place.Pos.{Pos}
 use Rattle.task_ast.specs.declared.tree.Kind.{Kind}
 use Rattle.task_ast.specs.declared.tree.Kind.TheVariants as kind
 use Rattle.task_ast.specs.declared.tree.Expr.{Expr, end_of-Expr, more_of-Expr}
@@ -25,11 +24,11 @@ use Rattle.task_text.specs.declared.token.Sign.TheVariants as sign
 use Rattle.task_text.specs.declared.token.Lexeme.{Lexeme}
 use Rattle.task_text.specs.declared.token.Token.{Token}
 use Rattle.task_text.specs.Division.{start, tokens_of}
-use Rattle.task_text.specs.Grammar.{IsBetween, IsBraced, IsExpr, IsValue, AreAll, IsNumber, IsSize, IsNextValue, AreValues, IsInit, IsDecl, IsTarget, IsHead, IsElse, IsStmt, AreStmts, IsExit, IsTask, IsProgram}
+use Rattle.task_text.specs.Grammar.{IsBetween, IsBraced, IsExpr, IsValue, AreAll, IsNumber, IsSize, IsNextValue, AreValues, IsInit, IsDecl, IsTarget, IsElse, IsStmt, AreStmts, IsExit, IsTask, IsProgram}
 use Rattle.task_text.specs.Printed.{word, mark, named, numbered, parenthesized, head_tokens, braced, body_tokens, expr_tokens, target_tokens, else_row, stmt_tokens, row_tokens, exit_tokens, kind_tokens, size_tokens, next_tokens, init_tokens, decl_tokens, task_tokens, program_tokens, printed}
 use Rattle.task_text.specs.Reads.{Reads}
 use Rattle.task_text.specs.Unplaced.{unplaced}
-use Rattle.task_text.proofs.FairTokens.{IsFair, fair_text}
+use Rattle.task_text.proofs.FairTokens.{fair_text}
 use Rattle.task_text.proofs.ReadableTrees.{AreFair, fair_front, fair_back, fair_inside}
 use Rattle.task_text.proofs.PrintedTexts.{IsPrintable, divides_so}
 use Rattle.task_text.proofs.PrintedPrograms.{program_again}

@@ -1,8 +1,7 @@
 -- The tokens of a printed program are that program, up to places.
-use Rattle.std.proofs.Common.{◌≡◌, ◌⊎◌, inl, inr, ◌∙◌, ℕ, ◌+◌, ◌<◌, List, [], ◌∷◌, ◌++◌, map, length, Option, Some, None, refl, sym, ap, subst, append_assoc, arith}
+use Rattle.std.proofs.Common.{◌≡◌, inl, inr, ◌∙◌, ℕ, List, [], ◌∷◌, ◌++◌, map, length, Option, Some, None, refl, ap, append_assoc, arith}
 use Rattle.std.specs.List.{flat_map}
 use Rattle.std.proofs.lemmas.List.{length-map}
-use Rattle.ease_base.specs.declared.place.Pos.{Pos}
 use Rattle.task_ast.specs.declared.tree.Kind.{Kind}
 use Rattle.task_ast.specs.declared.tree.Kind.TheVariants as kind
 use Rattle.task_ast.specs.declared.tree.Name.{Name}
@@ -16,10 +15,10 @@ use Rattle.task_text.specs.declared.token.Sign.TheVariants as sign
 use Rattle.task_text.specs.declared.token.Lexeme.{Lexeme}
 use Rattle.task_text.specs.declared.token.Lexeme.TheVariants as lexeme
 use Rattle.task_text.specs.declared.token.Token.{Token}
-use Rattle.task_text.specs.Grammar.{reserved, symbol, number, name, IsBetween, AreAll, IsKind, IsNumber, IsSize, IsNextValue, AreValues, IsInit, IsDecl, IsStmt, IsTask, IsProgram}
+use Rattle.task_text.specs.Grammar.{reserved, symbol, name, AreAll, IsKind, IsNumber, IsSize, IsNextValue, AreValues, IsInit, IsDecl, IsStmt, IsTask, IsProgram}
 use Rattle.task_text.specs.Printed.{word, mark, named, numbered, braced, kind_tokens, size_tokens, next_tokens, init_tokens, decl_tokens, stmt_tokens, body_tokens, exit_tokens, task_tokens, program_tokens}
 use Rattle.task_text.specs.Unplaced.{somewhere, bare_name, bare_stmt, bare_decl, bare_task, unplaced}
-use Rattle.task_text.proofs.Lexemes.{lexemes, placed, First, first_of, Parts, parts_of, none_of, one_of, Inside, inside_of}
+use Rattle.task_text.proofs.Lexemes.{lexemes, first_of, parts_of, none_of, one_of, inside_of}
 use Rattle.task_text.proofs.PrintedExprs.{between_again, append_over}
 use Rattle.task_text.proofs.PrintedStmts.{exit_again, stmt_again}
 

@@ -1,5 +1,5 @@
 -- The tokens of a printed exit or statement are that exit or statement, up to places.
-use Rattle.std.proofs.Common.{◌≡◌, ◌⊎◌, inl, inr, ◌∙◌, ℕ, ◌+◌, ◌≤◌, List, [], ◌∷◌, ◌++◌, map, refl, sym, ap, subst, append_assoc}
+use Rattle.std.proofs.Common.{◌≡◌, inl, inr, ◌∙◌, ℕ, ◌+◌, ◌≤◌, List, [], ◌∷◌, ◌++◌, refl, sym, ap, subst, append_assoc}
 use Rattle.ease_base.specs.declared.place.Pos.{Pos}
 use Rattle.task_ast.specs.declared.tree.Name.{Name}
 use Rattle.task_ast.specs.declared.tree.Expr.{Expr}
@@ -11,16 +11,15 @@ use Rattle.task_ast.specs.declared.tree.Exit.TheVariants as exit
 use Rattle.task_ast.specs.declared.tree.Exit.TheBlock.{hidden-the_row-Exit-0, shape-the_row-Exit-0}
 use Rattle.task_ast.specs.Readable.{most_nested}
 use Rattle.task_text.specs.declared.token.Keyword.TheVariants as keyword
-use Rattle.task_text.specs.declared.token.Sign.{Sign}
 use Rattle.task_text.specs.declared.token.Sign.TheVariants as sign
 use Rattle.task_text.specs.declared.token.Lexeme.{Lexeme}
 use Rattle.task_text.specs.declared.token.Lexeme.TheVariants as lexeme
 use Rattle.task_text.specs.declared.token.Token.{Token}
-use Rattle.task_text.specs.Grammar.{reserved, symbol, number, name, IsBetween, IsParenthesized, IsBraced, IsValue, AreAll, IsTarget, IsHead, IsElse, IsStmt, AreStmts, IsExit}
+use Rattle.task_text.specs.Grammar.{reserved, symbol, IsBraced, AreAll, IsHead, IsElse, IsStmt, AreStmts, IsExit}
 use Rattle.task_text.specs.GrammarRows.{IsChoice, IsLoop, stmt_if, stmt_loop}
-use Rattle.task_text.specs.Printed.{word, mark, named, numbered, parenthesized, braced, expr_tokens, target_tokens, setting, testing, stepping, head_tokens, else_row, stmt_tokens, row_tokens, exit_tokens}
-use Rattle.task_text.specs.Unplaced.{somewhere, bare_name, bare_expr, bare_target, bare_stmt, bare_row, bare_body, bare_exit, bare_if, bare_for}
-use Rattle.task_text.proofs.Lexemes.{lexemes, placed, First, first_of, Parts, parts_of, none_of, one_of, three_of, four_of, five_of, six_of, Inside, inside_of}
+use Rattle.task_text.specs.Printed.{word, mark, parenthesized, braced, expr_tokens, target_tokens, setting, testing, stepping, head_tokens, else_row, stmt_tokens, row_tokens, exit_tokens}
+use Rattle.task_text.specs.Unplaced.{somewhere, bare_name, bare_expr, bare_stmt, bare_row, bare_body, bare_exit, bare_if, bare_for}
+use Rattle.task_text.proofs.Lexemes.{lexemes, first_of, parts_of, none_of, one_of, three_of, four_of, five_of, six_of, Inside, inside_of}
 use Rattle.task_text.proofs.PrintedExprs.{between_again, append_over, BetweenAgain, value_again, value_between, target_again}
 use denote.Hole.Carrier.{hidden}
 

@@ -1,6 +1,5 @@
 -- A printed text divides into the tokens that were printed.
-use Rattle.std.proofs.Common.{◌≡◌, ◌≢◌, ◌⊎◌, inl, inr, ◌∙◌, ℕ, zero, suc, ◌+◌, ◌^◌, ◌<◌, Bool, true, false, List, [], ◌∷◌, ◌++◌, map, length, Option, Some, None, refl, sym, ap, subst, arith}
-use Rattle.std.specs.Prelude.{decimal, IsTrue}
+use Rattle.std.proofs.Common.{◌≡◌, inl, ℕ, false, List, [], ◌∷◌, ◌++◌, Some, None, refl, sym, ap, subst}
 use Rattle.std.specs.List.{AllByRecursion}
 use Rattle.op_table.specs.Reserved.{reserved_words, IsReserved}
 use Rattle.ease_base.specs.declared.place.Pos.{Pos}
@@ -13,8 +12,8 @@ use Rattle.task_text.specs.declared.token.Sign.TheVariants as sign
 use Rattle.task_text.specs.declared.token.Lexeme.{Lexeme}
 use Rattle.task_text.specs.declared.token.Lexeme.TheVariants as lexeme
 use Rattle.task_text.specs.declared.token.Token.{Token}
-use Rattle.task_text.specs.Spelling.{letters, longer, numeral, Spells, is_among, is_barred, MayStandBefore}
-use Rattle.task_text.specs.Division.{Piece, Fits, joined, ArePieces, BeginsWith, Divides, start, behind, tokens_of}
+use Rattle.task_text.specs.Spelling.{letters, longer, Spells, is_among, is_barred}
+use Rattle.task_text.specs.Division.{Piece, joined, ArePieces, Divides, start, behind, tokens_of}
 use Rattle.task_text.specs.Reads.{IsNarrow}
 use Rattle.task_text.specs.Printed.{spelling, spaced}
 use Rattle.task_text.proofs.Decimals.{numeral_decimal}

@@ -1,13 +1,10 @@
 -- A tree that a text has is readable: its names and numbers are those of tokens, and it has no more parts than they.
-use Rattle.std.proofs.Common.{◌≡◌, ◌⊎◌, inl, inr, ℕ, ◌+◌, ◌^◌, ◌<◌, ◌≤◌, List, [], ◌∷◌, ◌++◌, length, Option, Some, None, refl, sym, ap, subst, ◌∙◌, arith}
+use Rattle.std.proofs.Common.{◌≡◌, ◌⊎◌, inl, inr, ℕ, ◌+◌, ◌^◌, ◌<◌, ◌≤◌, List, [], ◌∷◌, ◌++◌, length, Option, Some, None, Result, Ok, Err, IfOk, refl, sym, ap, subst, arith}
 use Rattle.std.specs.Prelude.{sum_by}
 use Rattle.std.specs.List.{AllByRecursion}
 use Rattle.std.specs.Option.{ForSome}
 use Rattle.std.proofs.lemmas.List.{length-append}
 use Rattle.std.proofs.lemmas.List.Sums.{sum_by-cons}
-use Rattle.ease_base.specs.declared.place.Pos.{Pos}
-use Rattle.task_ast.specs.declared.tree.Kind.{Kind}
-use Rattle.task_ast.specs.declared.tree.Name.{Name}
 use Rattle.task_ast.specs.declared.tree.Expr.{Expr, end_of-Expr, more_of-Expr}
 use Rattle.task_ast.specs.declared.tree.Expr.TheVariants as expr
 use Rattle.task_ast.specs.declared.tree.Target.{Target}
@@ -20,16 +17,15 @@ use Rattle.task_ast.specs.declared.tree.Decl.{Decl}
 use Rattle.task_ast.specs.declared.tree.Decl.TheVariants as decl
 use Rattle.task_ast.specs.declared.tree.Task.{Task}
 use Rattle.task_ast.specs.declared.tree.Program.{Program}
-use Rattle.task_ast.specs.NameToken.{IsNameToken}
 use Rattle.task_ast.specs.Readable.{IsWord, HasWords, IsReadableExpr, IsReadableTarget, IsReadableStmt, AreReadableStmts, IsReadableExit, IsReadableDecl, IsReadableTask, IsReadable}
-use Rattle.task_ast.specs.Sizes.{expr_size, target_size, stmt_size, row_size, exit_size, decl_size, task_size, program_size}
+use Rattle.task_ast.specs.Sizes.{expr_size, target_size, stmt_size, row_size, exit_size, decl_size, task_size}
 use Rattle.task_text.specs.declared.token.Keyword.TheVariants as keyword
 use Rattle.task_text.specs.declared.token.Sign.{Sign}
 use Rattle.task_text.specs.declared.token.Sign.TheVariants as sign
 use Rattle.task_text.specs.declared.token.Token.{Token}
-use Rattle.task_text.specs.Division.{Divides, start, tokens_of}
-use Rattle.task_text.specs.Grammar.{reserved, symbol, name, sign_of, IsBetween, IsBracketed, IsParenthesized, IsBraced, IsExpr, IsValue, AreAll, IsNumber, IsSize, IsNextValue, AreValues, IsInit, IsDecl, IsTarget, IsHead, IsElse, IsStmt, AreStmts, IsExit, IsTask, IsProgram}
-use Rattle.task_text.specs.Reads.{Reads}
+use Rattle.task_text.specs.Grammar.{reserved, symbol, name, sign_of, IsBetween, IsBraced, IsExpr, IsValue, AreAll, IsNumber, IsSize, IsNextValue, AreValues, IsInit, IsDecl, IsTarget, IsElse, IsStmt, AreStmts, IsExit, IsTask}
+use Rattle.task_text.specs.declared.error.TextError.{TextError}
+use Rattle.task_text.specs.Reads.{Reads, IsResult}
 use Rattle.task_text.proofs.FairTokens.{IsFair, fair_text, few_in_text}
 
 abbrev pub AreFair : List Token → Type 0
@@ -215,3 +211,8 @@ readable text p reads short =
       some = is.some;
       size = omega (arith, decls.1, tasks.1, few_in_text text reads.pieces reads.divides, ap length is.whole, length-append is.front is.back, short);
     }
+
+-- and so is what the reader answers
+pub readable-from : (text : List ℕ) (r : Result Program TextError) → length text < 2 ^ 32 → IsResult text r → IfOk r IsReadable
+readable-from text (Ok p) short is = readable text p is short
+readable-from text (Err e) short is = tt

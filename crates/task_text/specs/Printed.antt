@@ -1,6 +1,6 @@
 -- The printed text of a program: its tokens with a space between any two, and a line feed at the end
 -- (docs/LANGUAGE.md, "The printed form").
-use Rattle.std.specs.Prelude.{◌≡◌, ℕ, ◌+◌, ◌-◌, List, [], ◌∷◌, ◌++◌, length, take, Option, Some, None, decimal}
+use Rattle.std.specs.Prelude.{◌≡◌, ℕ, ◌-◌, List, [], ◌∷◌, ◌++◌, length, take, Option, Some, None, decimal}
 use Rattle.std.specs.List.{flat_map}
 use Rattle.std.proofs.Common.{refl, ap, ◌∙◌}
 use Rattle.ease_base.specs.declared.place.Pos.{Pos}

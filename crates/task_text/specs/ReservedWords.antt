@@ -1,7 +1,6 @@
 -- The words of the table of reserved words are the keywords' letters, and a name token of a text is one of a tree.
-use Rattle.std.specs.Prelude.{◌≡◌, ℕ, zero, suc, List, [], ◌∷◌, map, Some}
-use Rattle.std.proofs.Common.{refl, sym, ap, subst}
-use Rattle.std.specs.List.{slice_get}
+use Rattle.std.specs.Prelude.{◌≡◌, ℕ, zero, suc, List, [], ◌∷◌, map}
+use Rattle.std.proofs.Common.{refl, sym, subst}
 use Rattle.op_table.specs.Places.{IsAt}
 use Rattle.op_table.specs.Reserved.{IsReserved, reserved_words}
 use Rattle.task_ast.specs.NameToken.{IsNameToken}

@@ -1,6 +1,7 @@
 //! Reads a program from its bytes.
 ghost use Rattle.std.specs.Prelude.{◌≡◌, ◌↔◌, ◌<◌, ◌⊎◌, length, List, ℕ, IfOk, IfErr, Ok, Err};
 ghost use Rattle.ease_base.specs.declared.place.Pos.{Pos};
+ghost use Rattle.task_ast.specs.Readable.{IsReadable};
 ghost use Rattle.task_ast.specs.declared.tree.Program.{Program};
 ghost use Rattle.op_table.specs.Reserved.{IsReserved};
 ghost use Rattle.task_text.specs.Spelling.{letters};
@@ -80,6 +81,8 @@ pub fn read_program(alloc: Global, text: &[u8]) -> Result<Program, TextError>
     ensures refused { IfErr result (IsCause text.now) }
     ensures breaks { (at : Pos) → BreaksAt text.now at → Answers result (Err (Syntax at)) }
     ensures wide { (at : Pos) → IsTooWideAt text.now at → Answers result (Err (NumberTooWide at)) }
+    // Names are name tokens, numbers are words, and nothing is too deep.
+    ensures readable { IfOk result IsReadable }
 {
     read(alloc, text)
 }

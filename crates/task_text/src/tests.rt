@@ -369,3 +369,33 @@ fn a_counter_is_read_to_its_tree(rt: HostRuntime) -> Result<(), Fail> {
     assert!(rt; is_sum_of_itself_and_one(&program));
     Ok(())
 }
+
+#[test]
+fn a_printed_program_has_a_space_between_any_two_tokens(rt: HostRuntime) -> Result<(), Fail> {
+    let cases = [
+        (
+            "task t{if(1)STOP;else STOP;}",
+            "task t { if ( 1 ) STOP ; else STOP ; }\n",
+        ),
+        (
+            "nv word x = 4294967295; task a { x = x + 1; STOP; }",
+            "nv word x = 4294967295 ; task a { x = x + 1 ; STOP ; }\n",
+        ),
+        (
+            "const nv word g[2]={3,0x1}; word v[1] = {7}; task t{if(v[0]){v[g[1]]=-1;}else{}NEXT(t);}",
+            "const nv word g [ 2 ] = { 3 , 1 } ; word v [ 1 ] = 7 ; task t { if ( v [ 0 ] ) { v [ g [ 1 ] ] = - 1 ; } NEXT ( t ) ; }\n",
+        ),
+        (
+            "word i; task t{for(i=0;i<3;i++){i=(i)*2;}if(i){}else{i=0;}STOP;}",
+            "word i ; task t { for ( i = 0 ; i < 3 ; i ++ ) { i = ( i ) * 2 ; } if ( i ) { } else { i = 0 ; } STOP ; }\n",
+        ),
+    ];
+    for (text, printed) in cases {
+        let Ok(program) = read_program(rt.alloc(), text.as_bytes()) else {
+            panic!(&rt; "{text:?} is refused");
+        };
+        let again = print_program(rt.alloc(), &program)?;
+        assert_eq!(&rt; again.as_slice(), printed.as_bytes(), "for {text:?}");
+    }
+    Ok(())
+}
