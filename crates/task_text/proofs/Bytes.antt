@@ -5,7 +5,7 @@ use Rattle.std.proofs.lemmas.Bool.Decides.{nat_tests}
 use Rattle.std.proofs.lemmas.List.Sums.{take_while-cons}
 use Rattle.std.specs.Char.{is_ascii_digit, is_ascii_hexdigit}
 use Rattle.std.specs.List.{list_all, take_while}
-use Rattle.task_text.specs.Spelling.{is_letter, is_word_byte}
+use Rattle.task_ast.specs.NameToken.{is_letter, is_word_byte}
 use Rattle.task_text.specs.Division.{is_white}
 
 pub letter-word : (b : ℕ) → is_letter b ≡ true → is_word_byte b ≡ true

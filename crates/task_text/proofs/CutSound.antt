@@ -12,7 +12,8 @@ use Rattle.task_text.specs.declared.token.Sign.TheVariants as sign
 use Rattle.task_text.specs.declared.token.Lexeme.{Lexeme}
 use Rattle.task_text.specs.declared.token.Lexeme.TheVariants.{Name, Number, TooWide, Reserved}
 use Rattle.task_text.specs.declared.cut.Cut.{Cut}
-use Rattle.task_text.specs.Spelling.{marks, numeral, is_letter, is_word_byte, Spells, MayStandBefore}
+use Rattle.task_ast.specs.NameToken.{is_letter, is_word_byte}
+use Rattle.task_text.specs.Spelling.{marks, numeral, Spells, MayStandBefore}
 use Rattle.task_text.specs.Division.{is_white, Fits, has_end, IsLineEnd}
 use Rattle.task_text.specs.Cutting.{keyword_of, sign_of, number_lexeme, name_lexeme, run_lexeme, blank, token, run_cut, end_len, ends_comment, symbol_cut, mark_cut, first_cut}
 use Rattle.task_text.proofs.Bytes.{Stops, Run, take_while_run, word-letter}

@@ -22,13 +22,14 @@ use Rattle.task_text.specs.declared.token.Token.{Token}
 use Rattle.task_text.specs.Spelling.{letters}
 use Rattle.task_text.specs.Division.{Piece, Divides, BreaksAt, start, tokens_of}
 use Rattle.task_text.specs.Cutting.{keyword_of, first_cut, run_cut, run_lexeme, mark_cut}
-use Rattle.task_text.specs.Reading.{program_at, many}
+use Rattle.task_text.specs.Reading.{many}
+use Rattle.task_text.specs.ReadingProgram.{program_at}
 use Rattle.task_text.specs.Reads.{Reads, IsNarrow, IsTooWideAt, HasNoTree, is_too_wide}
 use Rattle.task_text.proofs.Tables.{keyword_of-letters}
 use Rattle.task_text.proofs.DivisionLaws.{piece-cut}
 use Rattle.task_text.proofs.ExprSound.{two-is, depth-two}
 use Rattle.task_text.proofs.TokenLaws.{not_found}
-use Rattle.task_text.proofs.ItemsComplete.{program-complete}
+use Rattle.task_text.proofs.ProgramLaws.{program-complete}
 use Rattle.task_text.specs.Grammar.{IsProgram}
 use Rattle.task_text.specs.Grammar as grammar
 
@@ -186,7 +187,7 @@ counter-program =
       front = declared;
       back = task;
       whole = refl;
-      decls = (declared, [], refl, (at 1, at 4, at 23, init, refl, refl, (at 11, at 13, refl)), refl);
+      decls = (declared, [], refl, (at 4, at 23, grammar.reserved keyword.Nv (at 1) ∷ [], [], init, refl, (at 1, refl), refl, (at 11, grammar.number 4294967295 (at 13) ∷ [], refl, inl (refl, (at 13, refl)))), refl);
       tasks = (
         task,
         [],
@@ -197,7 +198,7 @@ counter-program =
           body = counter_body;
           ending = ending;
           whole = refl;
-          stmts = (counter_body, [], refl, (at 36, at 43, counter_value, refl, (two-is x one (at 40) (grammar.name (named (codes "x") 38) ∷ []) (grammar.number 1 (at 42) ∷ []) refl refl, omega (arith, depth-two x one))), refl);
+          stmts = (counter_body, [], refl, (at 36, at 43, grammar.name (named (codes "x") 34) ∷ [], counter_value, refl, omega arith, refl, (two-is Add x one 0 (at 40) (grammar.name (named (codes "x") 38) ∷ []) (grammar.number 1 (at 42) ∷ []) (omega arith) refl refl, omega (arith, depth-two Add x one))), refl);
           exit = (at 45, at 49, refl);
         },
         refl,

@@ -1,5 +1,6 @@
--- An expression of the grammar is read, where no `+` follows.
+-- An expression of the grammar is read, where no operator goes on with it.
 use Rattle.std.proofs.Common.{◌≡◌, ℕ, suc, ◌+◌, ◌-◌, ◌<◌, ◌≤◌, max, false, List, [], ◌∷◌, ◌++◌, refl, sym, ap, subst, ◌∙◌, arith, append_assoc}
+use Rattle.std.proofs.lemmas.Bool.{cond-true, cond-false}
 use Rattle.ease_base.specs.declared.place.Pos.{Pos}
 use Rattle.task_ast.specs.declared.tree.Name.{Name}
 use Rattle.task_ast.specs.declared.tree.Op1.{Op1}
@@ -10,130 +11,189 @@ use Rattle.task_ast.specs.declared.tree.Expr.TheVariants as expr
 use Rattle.task_ast.specs.declared.tree.Expr.TheBlock.{hidden-the_row-Expr-0, shape-the_row-Expr-0}
 use denote.Hole.Carrier.{hidden}
 use Rattle.task_ast.specs.Expressions.{HoldsByParts, for_every}
-use Rattle.task_text.specs.declared.token.Sign.{Sign}
+use Rattle.task_ast.specs.Readable.{depth, deepest}
 use Rattle.task_text.specs.declared.token.Sign.TheVariants as sign
 use Rattle.task_text.specs.declared.token.Token.{Token}
 use Rattle.task_text.specs.declared.expr.Deep.{Deep}
-use Rattle.task_text.specs.Grammar.{symbol, number, name, Stands, IsExpr, depth}
-use Rattle.task_text.specs.Reading.{found, ◌>>=◌, begins_sign, sign_at, parenthesized, sum, atom_at, paren_of, part_at, expr_at, name_at, number_at}
-use Rattle.task_text.proofs.TokenLaws.{sign-complete}
-use Rattle.task_text.proofs.Terms.{Terms, Terms-none, Terms-more, Terms-all, part-atom, part-paren}
-use Rattle.task_text.proofs.ExprSound.{depth-paren, depth-two}
+use Rattle.task_text.specs.Grammar.{symbol, number, name, sign_of, binds, prefix_of, prefix_binds, IsParenthesized, IsBracketed, IsExpr, IsValue}
+use Rattle.task_text.specs.Reading.{Outcome, found, between, begins_sign, name_at, number_at}
+use Rattle.task_text.specs.ReadingExpr.{joined, begins_prefix, begins_operator, literal_at, behind_name, named_of, paren_of, prefixed_of, part_of, expr_at, value_at, is_there}
+use Rattle.task_text.proofs.Offs.{bind-at, between-complete}
+use Rattle.task_text.proofs.OperatorLaws.{sign-unary, operator-complete, prefix-complete, begins-tight, begins-loose, begins-looser, begins-none, binds-below}
+use Rattle.task_text.proofs.Terms.{Terms, Terms-none, Terms-more, Terms-all}
+use Rattle.task_text.proofs.ExprSound.{depth-index, depth-paren, depth-one, depth-two}
 
 -- an expression and its depth
 abbrev pub measured : Expr → Deep
 measured e = record { expr = e; depth = depth e }
 
--- the expression is read as a part, and as the left end of a sum
-record IsRead (e : Expr) : Type 0 where
-  part : (n : ℕ) (tokens rest : List Token) → IsExpr e 1 tokens → depth e ≤ n → part_at n (tokens ++ rest) ≡ found (measured e) rest
-  left : (n : ℕ) (tokens rest : List Token) → IsExpr e 0 tokens → depth e ≤ n → Terms n (tokens ++ rest) (measured e) rest
+-- the expression is read as the left end of whatever no tighter operator and no index goes on with
+abbrev IsRead : Expr → Type 0
+IsRead e = (n low level : ℕ) (tokens rest : List Token) → IsExpr e level tokens → low ≤ level → level ≤ prefix_binds → depth e ≤ n → begins_operator (suc level) rest ≡ false → begins_sign sign.BracketOpen rest ≡ false → Terms n low (tokens ++ rest) (measured e) rest
 
-not_none : (n m : ℕ) → suc m ≤ n → n ≡ 0 → ⊥
-not_none n m h e = let k : ⊥ = omega arith in k
+-- so it is read whole where no operator goes on with it
+whole-read : (e : Expr) → IsRead e → (n level : ℕ) (tokens rest : List Token) → IsExpr e level tokens → level ≤ prefix_binds → depth e ≤ n → begins_operator level rest ≡ false → begins_sign sign.BracketOpen rest ≡ false → expr_at n level (tokens ++ rest) ≡ found (measured e) rest
+whole-read e r n level tokens rest h low deep stops ends =
+    Terms-all n level (tokens ++ rest) (measured e) rest (r n level level tokens rest h (omega arith) low deep (begins-looser level (suc level) rest (omega arith) stops) ends) stops
 
-number-read : (m : ℕ) (at : Pos) (n : ℕ) (tokens rest : List Token) → tokens ≡ number m at ∷ [] → 1 ≤ n → part_at n (tokens ++ rest) ≡ found (measured (expr.Number m at)) rest
-unfolding atom_at number_at
-number-read m at n tokens rest e h = ap (λ ts. part_at n (ts ++ rest)) e ∙ part-atom n (number m at ∷ rest) (not_none n 0 h) refl
+-- there is room for a part that is some deep
+no-zero : (n m : ℕ) → suc m ≤ n → n ≡ 0 → ⊥
+no-zero n m h e = let k : ⊥ = omega arith in k
 
-scalar-read : (x : Name) (n : ℕ) (tokens rest : List Token) → tokens ≡ name x ∷ [] → 1 ≤ n → part_at n (tokens ++ rest) ≡ found (measured (expr.Read x)) rest
-unfolding atom_at name_at
-scalar-read x n tokens rest e h = ap (λ ts. part_at n (ts ++ rest)) e ∙ part-atom n (name x ∷ rest) (not_none n 0 h) refl
+-- a part is read as the left end
+part-read : (e : Expr) (m n low : ℕ) (ts rest : List Token) → suc m ≤ n → part_of (expr_at (n - 1)) ts ≡ found (measured e) rest → Terms n low ts (measured e) rest
+part-read e m n low ts rest room h = Terms-none n low ts (measured e) rest (no-zero n m room) h
 
--- what an expression in parentheses is made of
-record Parens (e : Expr) (tokens : List Token) : Type 0 where
-  first : Pos
-  last : Pos
-  inner : List Token
-  whole : tokens ≡ symbol sign.ParenOpen first ∷ (inner ++ symbol sign.ParenClose last ∷ [])
-  inside : IsExpr e 0 inner
+-- ---- which part it is
 
-parens : (e : Expr) (level : ℕ) (tokens : List Token) → IsExpr (expr.Paren e) level tokens → Parens e tokens
+literal-part : (inner : ℕ → List Token → Outcome Deep) (m : ℕ) (at : Pos) (rest : List Token) → part_of inner (number m at ∷ rest) ≡ found (measured (expr.Number m at)) rest
+unfolding part_of literal_at number_at
+literal-part inner m at rest = refl
+
+named-part : (inner : ℕ → List Token → Outcome Deep) (x : Name) (rest : List Token) → part_of inner (name x ∷ rest) ≡ behind_name (inner 0) x rest
+unfolding part_of named_of name_at
+named-part inner x rest = refl
+
+paren-part : (inner : ℕ → List Token → Outcome Deep) (at : Pos) (rest : List Token) → part_of inner (symbol sign.ParenOpen at ∷ rest) ≡ paren_of (inner 0) (symbol sign.ParenOpen at ∷ rest)
+unfolding part_of
+paren-part inner at rest = refl
+
+prefix-part : (inner : ℕ → List Token → Outcome Deep) (o : Op1) (at : Pos) (rest : List Token) → part_of inner (symbol (prefix_of o) at ∷ rest) ≡ prefixed_of (inner prefix_binds) (symbol (prefix_of o) at ∷ rest)
+unfolding part_of
+prefix-part inner o at rest = cond-true (begins_prefix (symbol (prefix_of o) at ∷ rest)) _ _ (ap is_there (sign-unary o))
+
+scalar-part : (inner : List Token → Outcome Deep) (x : Name) (rest : List Token) → begins_sign sign.BracketOpen rest ≡ false → behind_name inner x rest ≡ found (measured (expr.Read x)) rest
+unfolding behind_name
+scalar-part inner x rest h = cond-false (begins_sign sign.BracketOpen rest) _ _ h
+
+-- ---- what the trees of the grammar are made of
+
+record Index (x : Name) (i : Expr) (tokens : List Token) : Type 0 where
+  index : List Token
+  whole : tokens ≡ name x ∷ index
+  bracketed : IsBracketed (IsExpr i 0) index
+
+index-parts : (x : Name) (i : Expr) (level : ℕ) (tokens : List Token) → IsExpr (expr.Index x i) level tokens → Index x i tokens
 unfolding hidden-the_row-Expr-0 shape-the_row-Expr-0 hidden
-parens e level tokens h = record { first = h.0; last = h.1; inner = h.2; whole = h.3; inside = h.4 }
+index-parts x i level tokens h = record { index = h.0; whole = h.1; bracketed = h.2 }
 
-paren-body : (n : ℕ) (a b : Pos) (inner rest : List Token) (d : Deep) → expr_at n (inner ++ symbol sign.ParenClose b ∷ rest) ≡ found d (symbol sign.ParenClose b ∷ rest) → paren_of (expr_at n) (symbol sign.ParenOpen a ∷ (inner ++ symbol sign.ParenClose b ∷ rest)) ≡ found (parenthesized d) rest
-unfolding paren_of
-paren-body n a b inner rest d e =
-    ap (λ r. r >>= λ x. expr_at n x.rest >>= λ y. sign_at sign.ParenClose y.rest >>= λ z. found (parenthesized y.value) z.rest) (sign-complete sign.ParenOpen a (inner ++ symbol sign.ParenClose b ∷ rest))
-    ∙ ap (λ r. r >>= λ y. sign_at sign.ParenClose y.rest >>= λ z. found (parenthesized y.value) z.rest) e
-    ∙ ap (λ r. r >>= λ z. found (parenthesized d) z.rest) (sign-complete sign.ParenClose b rest)
+paren-parts : (e : Expr) (level : ℕ) (tokens : List Token) → IsExpr (expr.Paren e) level tokens → IsParenthesized (IsExpr e 0) tokens
+unfolding hidden-the_row-Expr-0 shape-the_row-Expr-0 hidden
+paren-parts e level tokens h = h
 
-deeper : (e : Expr) → parenthesized (measured e) ≡ measured (expr.Paren e)
-deeper e = ap (λ k. record { expr = expr.Paren e; depth = k }) (let k : depth e + 1 ≡ depth (expr.Paren e) = omega (arith, depth-paren e) in k)
+record Prefixed (o : Op1) (e : Expr) (tokens : List Token) : Type 0 where
+  at : Pos
+  inner : List Token
+  whole : tokens ≡ symbol (prefix_of o) at ∷ inner
+  inside : IsExpr e prefix_binds inner
 
-paren-read : (e : Expr) → IsRead e → (level n : ℕ) (tokens rest : List Token) → IsExpr (expr.Paren e) level tokens → depth (expr.Paren e) ≤ n → part_at n (tokens ++ rest) ≡ found (measured (expr.Paren e)) rest
-paren-read e r level n tokens rest h deep =
-    let p = parens e level tokens h in
-    let b = symbol sign.ParenClose p.last in
-    let whole : tokens ++ rest ≡ symbol sign.ParenOpen p.first ∷ (p.inner ++ b ∷ rest) = ap (λ ts. ts ++ rest) p.whole ∙ ap (λ ts. symbol sign.ParenOpen p.first ∷ ts) (append_assoc p.inner (b ∷ []) rest) in
-    let some : n ≡ 0 → ⊥ = not_none n (depth e) (omega (arith, depth-paren e)) in
-    let left = r.left (n - 1) p.inner (b ∷ rest) p.inside (omega (arith, depth-paren e)) in
-    ap (part_at n) whole
-    ∙ part-paren n (symbol sign.ParenOpen p.first ∷ (p.inner ++ b ∷ rest)) some refl
-    ∙ paren-body (n - 1) p.first p.last p.inner rest (measured e) (Terms-all (n - 1) (p.inner ++ b ∷ rest) (measured e) (b ∷ rest) left refl)
-    ∙ ap (λ d. found d rest) (deeper e)
+one-parts : (o : Op1) (e : Expr) (level : ℕ) (tokens : List Token) → IsExpr (expr.One o e) level tokens → Prefixed o e tokens
+unfolding hidden-the_row-Expr-0 shape-the_row-Expr-0 hidden
+one-parts o e level tokens h = record { at = h.0; inner = h.1; whole = h.2; inside = h.4 }
 
--- what a sum is made of
-record Sum (e f : Expr) (tokens : List Token) : Type 0 where
+record Joined (o : Op2) (e f : Expr) (level : ℕ) (tokens : List Token) : Type 0 where
   at : Pos
   left : List Token
   right : List Token
-  whole : tokens ≡ left ++ symbol sign.Plus at ∷ right
-  first : IsExpr e 0 left
-  second : IsExpr f 1 right
+  whole : tokens ≡ left ++ symbol (sign_of o) at ∷ right
+  low : level ≤ binds o
+  first : IsExpr e (binds o) left
+  second : IsExpr f (binds o + 1) right
 
-stands-plus : (o : Op2) (s : Sign) → Stands o s → (o ≡ op.Add) × (s ≡ sign.Plus)
-stands-plus op.Add s h = (refl, h)
-stands-plus _ s h = absurd h
-
-sum-parts : (o : Op2) (e f : Expr) (tokens : List Token) → IsExpr (expr.Two o e f) 0 tokens → (o ≡ op.Add) × Sum e f tokens
+two-parts : (o : Op2) (e f : Expr) (level : ℕ) (tokens : List Token) → IsExpr (expr.Two o e f) level tokens → Joined o e f level tokens
 unfolding hidden-the_row-Expr-0 shape-the_row-Expr-0 hidden
-sum-parts o e f tokens h =
-    let s = stands-plus o h.0 h.5 in
-    (s.0, record { at = h.1; left = h.2; right = h.3; whole = h.4 ∙ ap (λ x. h.2 ++ symbol x h.1 ∷ h.3) s.1; first = h.7; second = h.8 })
+two-parts o e f level tokens h = record { at = h.0; left = h.1; right = h.2; whole = h.3; low = h.4; first = h.5; second = h.6 }
 
-no-part : (o : Op2) (e f : Expr) (tokens : List Token) → IsExpr (expr.Two o e f) 1 tokens → ⊥
-unfolding hidden-the_row-Expr-0 shape-the_row-Expr-0 hidden
-no-part o e f tokens h = let k : 1 ≤ 0 = h.6 in let l : ⊥ = omega arith in l
+-- ---- each is read
 
-summed : (e f : Expr) → sum (measured e) (measured f) ≡ measured (expr.Two op.Add e f)
-summed e f = ap (λ k. record { expr = expr.Two op.Add e f; depth = k }) (let k : max (depth e) (depth f) + 1 ≡ depth (expr.Two op.Add e f) = omega (arith, depth-two e f) in k)
+deeper : (e f : Expr) → depth f ≡ 1 + depth e → depth e + 1 ≡ depth f
+deeper e f h = omega arith
 
-sum-read : (e f : Expr) → IsRead e → IsRead f → (n : ℕ) (tokens rest : List Token) → Sum e f tokens → depth (expr.Two op.Add e f) ≤ n → Terms n (tokens ++ rest) (measured (expr.Two op.Add e f)) rest
-sum-read e f r s n tokens rest p deep =
-    let d = depth-two e f in
-    let plus = symbol sign.Plus p.at in
-    let whole : tokens ++ rest ≡ p.left ++ plus ∷ (p.right ++ rest) = ap (λ ts. ts ++ rest) p.whole ∙ append_assoc p.left (plus ∷ p.right) rest in
-    let left = r.left n p.left (plus ∷ (p.right ++ rest)) p.first (omega arith) in
-    let right = s.part (n - 1) p.right rest p.second (omega arith) in
+index-body : (inner : List Token → Outcome Deep) (x : Name) (i : Expr) (index rest : List Token) → ((mid back : List Token) → IsExpr i 0 mid → begins_operator 0 back ≡ false → begins_sign sign.BracketOpen back ≡ false → inner (mid ++ back) ≡ found (measured i) back) → IsBracketed (IsExpr i 0) index → behind_name inner x (index ++ rest) ≡ found (measured (expr.Index x i)) rest
+unfolding behind_name
+index-body inner x i index rest reads b =
+    let closing = symbol sign.BracketClose b.at_last in
+    let opened = symbol sign.BracketOpen b.at_first ∷ (b.inner ++ closing ∷ []) in
+    ap (λ ts. behind_name inner x (ts ++ rest)) b.whole
+    ∙ bind-at (between sign.BracketOpen sign.BracketClose inner (opened ++ rest)) _ (measured i) rest (between-complete sign.BracketOpen sign.BracketClose inner (measured i) b.at_first b.at_last b.inner rest (reads b.inner (closing ∷ rest) b.inside refl refl))
+    ∙ ap (λ k. found (record { expr = expr.Index x i; depth = k }) rest) (deeper i (expr.Index x i) (depth-index x i))
+
+paren-body : (inner : List Token → Outcome Deep) (e : Expr) (tokens rest : List Token) → ((mid back : List Token) → IsExpr e 0 mid → begins_operator 0 back ≡ false → begins_sign sign.BracketOpen back ≡ false → inner (mid ++ back) ≡ found (measured e) back) → IsParenthesized (IsExpr e 0) tokens → paren_of inner (tokens ++ rest) ≡ found (measured (expr.Paren e)) rest
+unfolding paren_of
+paren-body inner e tokens rest reads b =
+    let closing = symbol sign.ParenClose b.at_last in
+    ap (λ ts. paren_of inner (ts ++ rest)) b.whole
+    ∙ bind-at (between sign.ParenOpen sign.ParenClose inner ((symbol sign.ParenOpen b.at_first ∷ (b.inner ++ closing ∷ [])) ++ rest)) _ (measured e) rest (between-complete sign.ParenOpen sign.ParenClose inner (measured e) b.at_first b.at_last b.inner rest (reads b.inner (closing ∷ rest) b.inside refl refl))
+    ∙ ap (λ k. found (record { expr = expr.Paren e; depth = k }) rest) (deeper e (expr.Paren e) (depth-paren e))
+
+prefix-body : (inner : List Token → Outcome Deep) (o : Op1) (e : Expr) (at : Pos) (mid rest : List Token) → inner (mid ++ rest) ≡ found (measured e) rest → prefixed_of inner (symbol (prefix_of o) at ∷ (mid ++ rest)) ≡ found (measured (expr.One o e)) rest
+unfolding prefixed_of
+prefix-body inner o e at mid rest h =
+    bind-at _ _ o (mid ++ rest) (prefix-complete o at (mid ++ rest))
+    ∙ bind-at _ _ (measured e) rest h
+    ∙ ap (λ k. found (record { expr = expr.One o e; depth = k }) rest) (deeper e (expr.One o e) (depth-one o e))
+
+number-read : (m : ℕ) (at : Pos) → IsRead (expr.Number m at)
+number-read m at n low level tokens rest h a b deep stops ends =
+    part-read (expr.Number m at) 0 n low (tokens ++ rest) rest deep (ap (λ ts. part_of (expr_at (n - 1)) (ts ++ rest)) h ∙ literal-part (expr_at (n - 1)) m at rest)
+
+index-read : (x : Name) (i : Expr) → IsRead i → IsRead (expr.Index x i)
+index-read x i r n low level tokens rest h a b deep stops ends =
+    let p = index-parts x i level tokens h in
+    let d = depth-index x i in
+    let reads = λ (mid back : List Token) (k : IsExpr i 0 mid) (e : begins_operator 0 back ≡ false) (f : begins_sign sign.BracketOpen back ≡ false). whole-read i r (n - 1) 0 mid back k (omega arith) (omega arith) e f in
+    part-read (expr.Index x i) (depth i) n low (tokens ++ rest) rest (omega arith)
+    (ap (λ ts. part_of (expr_at (n - 1)) (ts ++ rest)) p.whole ∙ named-part (expr_at (n - 1)) x (p.index ++ rest) ∙ index-body (expr_at (n - 1) 0) x i p.index rest reads p.bracketed)
+
+paren-read : (e : Expr) → IsRead e → IsRead (expr.Paren e)
+paren-read e r n low level tokens rest h a b deep stops ends =
+    let p = paren-parts e level tokens h in
+    let d = depth-paren e in
+    let reads = λ (mid back : List Token) (k : IsExpr e 0 mid) (s : begins_operator 0 back ≡ false) (f : begins_sign sign.BracketOpen back ≡ false). whole-read e r (n - 1) 0 mid back k (omega arith) (omega arith) s f in
+    part-read (expr.Paren e) (depth e) n low (tokens ++ rest) rest (omega arith)
+    (ap (λ ts. part_of (expr_at (n - 1)) (ts ++ rest)) p.whole
+    ∙ paren-part (expr_at (n - 1)) p.at_first ((p.inner ++ symbol sign.ParenClose p.at_last ∷ []) ++ rest)
+    ∙ ap (λ ts. paren_of (expr_at (n - 1) 0) (ts ++ rest)) (sym p.whole)
+    ∙ paren-body (expr_at (n - 1) 0) e tokens rest reads p)
+
+one-read : (o : Op1) (e : Expr) → IsRead e → IsRead (expr.One o e)
+one-read o e r n low level tokens rest h a b deep stops ends =
+    let p = one-parts o e level tokens h in
+    let d = depth-one o e in
+    let inner = whole-read e r (n - 1) prefix_binds p.inner rest p.inside (omega arith) (omega arith) (begins-none rest prefix_binds (omega arith)) ends in
+    part-read (expr.One o e) (depth e) n low (tokens ++ rest) rest (omega arith)
+    (ap (λ ts. part_of (expr_at (n - 1)) (ts ++ rest)) p.whole ∙ prefix-part (expr_at (n - 1)) o p.at (p.inner ++ rest) ∙ prefix-body (expr_at (n - 1) prefix_binds) o e p.at p.inner rest inner)
+
+scalar-read : (x : Name) → IsRead (expr.Read x)
+scalar-read x n low level tokens rest h a b deep stops ends =
+    part-read (expr.Read x) 0 n low (tokens ++ rest) rest deep (ap (λ ts. part_of (expr_at (n - 1)) (ts ++ rest)) h ∙ named-part (expr_at (n - 1)) x rest ∙ scalar-part (expr_at (n - 1) 0) x rest ends)
+
+no-bracket : (o : Op2) (at : Pos) (rest : List Token) → begins_sign sign.BracketOpen (symbol (sign_of o) at ∷ rest) ≡ false
+no-bracket op.Add at rest = refl
+no-bracket _ at rest = refl
+
+joined-measured : (o : Op2) (e f : Expr) → joined o (measured e) (measured f) ≡ measured (expr.Two o e f)
+joined-measured o e f = ap (λ k. record { expr = expr.Two o e f; depth = k }) (let k : max (depth e) (depth f) + 1 ≡ depth (expr.Two o e f) = omega (arith, depth-two o e f) in k)
+
+two-read : (o : Op2) (e f : Expr) → IsRead e → IsRead f → IsRead (expr.Two o e f)
+two-read o e f r s n low level tokens rest h a b deep stops ends =
+    let p = two-parts o e f level tokens h in
+    let d = depth-two o e f in
+    let under = binds-below o in
+    let at_level = p.low in
+    let back = symbol (sign_of o) p.at ∷ (p.right ++ rest) in
+    let whole : tokens ++ rest ≡ p.left ++ back = ap (λ ts. ts ++ rest) p.whole ∙ append_assoc p.left (symbol (sign_of o) p.at ∷ p.right) rest in
+    let left = r n low (binds o) p.left back p.first (omega arith) (omega arith) (omega arith) (begins-loose (suc (binds o)) o p.at (p.right ++ rest) (omega arith)) (no-bracket o p.at (p.right ++ rest)) in
+    let loose = begins-looser (suc level) (binds o + 1) rest (omega arith) stops in
+    let right = whole-read f s (n - 1) (binds o + 1) p.right rest p.second (omega arith) (omega arith) loose ends in
     let less : depth e < n = omega arith in
-    subst (λ (x : Deep). Terms n (tokens ++ rest) x rest) (summed e f)
-    (subst (λ ts. Terms n ts (sum (measured e) (measured f)) rest) (sym whole) (Terms-more n (p.left ++ plus ∷ (p.right ++ rest)) (measured e) (measured f) (plus ∷ (p.right ++ rest)) (p.right ++ rest) rest p.at left refl less (sign-complete sign.Plus p.at (p.right ++ rest)) right))
-
-two-read : (o : Op2) (e f : Expr) → IsRead e → IsRead f → (n : ℕ) (tokens rest : List Token) → IsExpr (expr.Two o e f) 0 tokens → depth (expr.Two o e f) ≤ n → Terms n (tokens ++ rest) (measured (expr.Two o e f)) rest
-two-read o e f r s n tokens rest h =
-    let p = sum-parts o e f tokens h in
-    subst (λ (x : Op2). depth (expr.Two x e f) ≤ n → Terms n (tokens ++ rest) (measured (expr.Two x e f)) rest) (sym p.0) (sum-read e f r s n tokens rest p.1)
-
-no-index : (x : Name) (i : Expr) (level : ℕ) (tokens : List Token) → IsExpr (expr.Index x i) level tokens → ⊥
-unfolding hidden-the_row-Expr-0 shape-the_row-Expr-0 hidden
-no-index x i level tokens h = h
-
-no-prefix : (o : Op1) (e : Expr) (level : ℕ) (tokens : List Token) → IsExpr (expr.One o e) level tokens → ⊥
-unfolding hidden-the_row-Expr-0 shape-the_row-Expr-0 hidden
-no-prefix o e level tokens h = h
+    subst (λ (x : Deep). Terms n low (tokens ++ rest) x rest) (joined-measured o e f)
+    (subst (λ ts. Terms n low ts (joined o (measured e) (measured f)) rest) (sym whole)
+    (Terms-more n low (p.left ++ back) (measured e) back left (begins-tight low o p.at (p.right ++ rest) (omega arith)) o (measured f) (p.right ++ rest) rest less (operator-complete o p.at (p.right ++ rest)) right))
 
 read-by-parts : HoldsByParts IsRead
-read-by-parts = record {
-  number = λ m at. record { part = λ n tokens rest h d. number-read m at n tokens rest h d; left = λ n tokens rest h d. Terms-none n (tokens ++ rest) _ rest (number-read m at n tokens rest h d) };
-  read = λ x. record { part = λ n tokens rest h d. scalar-read x n tokens rest h d; left = λ n tokens rest h d. Terms-none n (tokens ++ rest) _ rest (scalar-read x n tokens rest h d) };
-  index = λ x i r. record { part = λ n tokens rest h d. absurd (no-index x i 1 tokens h); left = λ n tokens rest h d. absurd (no-index x i 0 tokens h) };
-  paren = λ e r. record { part = λ n tokens rest h d. paren-read e r 1 n tokens rest h d; left = λ n tokens rest h d. Terms-none n (tokens ++ rest) _ rest (paren-read e r 0 n tokens rest h d) };
-  one = λ o e r. record { part = λ n tokens rest h d. absurd (no-prefix o e 1 tokens h); left = λ n tokens rest h d. absurd (no-prefix o e 0 tokens h) };
-  two = λ o e f r s. record { part = λ n tokens rest h d. absurd (no-part o e f tokens h); left = λ n tokens rest h d. two-read o e f r s n tokens rest h d };
-}
+read-by-parts = record { number = number-read; read = scalar-read; index = index-read; paren = paren-read; one = one-read; two = two-read }
 
--- an expression of allowed depth is read, where no `+` follows
-pub expr-complete : (e : Expr) (n : ℕ) (tokens rest : List Token) → IsExpr e 0 tokens → depth e ≤ n → begins_sign sign.Plus rest ≡ false → expr_at n (tokens ++ rest) ≡ found (measured e) rest
-expr-complete e n tokens rest h d stops = Terms-all n (tokens ++ rest) (measured e) rest ((for_every IsRead read-by-parts e).left n tokens rest h d) stops
+-- an expression of allowed depth is read, where no operator and no bracket follows
+pub value-complete : (e : Expr) (tokens rest : List Token) → IsValue e tokens → begins_operator 0 rest ≡ false → begins_sign sign.BracketOpen rest ≡ false → value_at (tokens ++ rest) ≡ found (measured e) rest
+value-complete e tokens rest h stops ends = whole-read e (for_every IsRead read-by-parts e) deepest 0 tokens rest h.0 (omega arith) h.1 stops ends

@@ -9,10 +9,10 @@ abbrev pub with_front : {T : Type 0} → List T → Outcome (List T) → Outcome
 with_front front read = read >>= λ xs. found (front ++ xs.value) xs.rest
 
 -- what is read of the items so far, and what goes on behind it
-pub record Items {T : Type 0} (begins : List Token → Bool) (item : List Token → Outcome T) (old : List Token) (front : List T) (ts : List Token) : Type 0 where
+pub record Items {T : Type 0} (begins : List Token → Bool) (item : List Token → Outcome T) (whole : Outcome (List T)) (front : List T) (ts : List Token) : Type 0 where
   pub more : ℕ
   pub room : length ts ≤ more
-  pub same : many (length old) begins item old ≡ with_front front (many more begins item ts)
+  pub same : whole ≡ with_front front (many more begins item ts)
 
 front-none : {T : Type 0} (read : Outcome (List T)) → read ≡ with_front [] read
 front-none (Ok x) = refl
@@ -22,7 +22,7 @@ front-more : {T : Type 0} (front : List T) (x : T) (read : Outcome (List T)) →
 front-more front x (Ok xs) = ap (λ ys. found ys xs.rest) (sym (append_assoc front (x ∷ []) xs.value))
 front-more front x (Err left) = refl
 
-pub Items-none : {T : Type 0} (begins : List Token → Bool) (item : List Token → Outcome T) (old : List Token) → Items begins item old [] old
+pub Items-none : {T : Type 0} (begins : List Token → Bool) (item : List Token → Outcome T) (old : List Token) → Items begins item (many (length old) begins item old) [] old
 Items-none begins item old = record { more = length old; room = omega arith; same = front-none (many (length old) begins item old) }
 
 -- an item of each reading takes a token
@@ -43,9 +43,9 @@ some-left : (begins : List Token → Bool) (ts : List Token) → begins [] ≡ f
 some-left begins [] e h = absurd (false≢true (sym e ∙ h))
 some-left begins (t ∷ ts) e h = omega arith
 
-pub Items-more : {T : Type 0} (begins : List Token → Bool) (item : List Token → Outcome T) (old : List Token) (front : List T) (x : T) (ts us : List Token) → begins [] ≡ false → Takes item → Items begins item old front ts → begins ts ≡ true → item ts ≡ found x us → Items begins item old (front ++ x ∷ []) us
-Items-more {T} begins item old front x ts us ends takes r h e = go r.more r.room r.same where
-  go : (more : ℕ) → length ts ≤ more → many (length old) begins item old ≡ with_front front (many more begins item ts) → Items begins item old (front ++ x ∷ []) us
+pub Items-more : {T : Type 0} (begins : List Token → Bool) (item : List Token → Outcome T) (whole : Outcome (List T)) (front : List T) (x : T) (ts us : List Token) → begins [] ≡ false → Takes item → Items begins item whole front ts → begins ts ≡ true → item ts ≡ found x us → Items begins item whole (front ++ x ∷ []) us
+Items-more {T} begins item whole front x ts us ends takes r h e = go r.more r.room r.same where
+  go : (more : ℕ) → length ts ≤ more → whole ≡ with_front front (many more begins item ts) → Items begins item whole (front ++ x ∷ []) us
   go zero room same = absurd (let k : 0 < length ts = some-left begins ts ends h in let l : ⊥ = omega arith in l)
   go (suc more) room same = record {
     more = more;
@@ -54,11 +54,11 @@ Items-more {T} begins item old front x ts us ends takes r h e = go r.more r.room
         ∙ front-more front x (many more begins item us);
   }
 
-pub Items-break : {T : Type 0} (begins : List Token → Bool) (item : List Token → Outcome T) (old : List Token) (front : List T) (ts us : List Token) → begins [] ≡ false → Items begins item old front ts → begins ts ≡ true → item ts ≡ Err us → many (length old) begins item old ≡ Err us
-Items-break {T} begins item old front ts us ends r h e = go r.more r.room r.same where
-  go : (more : ℕ) → length ts ≤ more → many (length old) begins item old ≡ with_front front (many more begins item ts) → many (length old) begins item old ≡ Err us
+pub Items-break : {T : Type 0} (begins : List Token → Bool) (item : List Token → Outcome T) (whole : Outcome (List T)) (front : List T) (ts us : List Token) → begins [] ≡ false → Items begins item whole front ts → begins ts ≡ true → item ts ≡ Err us → whole ≡ Err us
+Items-break {T} begins item whole front ts us ends r h e = go r.more r.room r.same where
+  go : (more : ℕ) → length ts ≤ more → whole ≡ with_front front (many more begins item ts) → whole ≡ Err us
   go zero room same = absurd (let k : 0 < length ts = some-left begins ts ends h in let l : ⊥ = omega arith in l)
   go (suc more) room same = same ∙ ap (with_front front) (many-step more begins item ts h ∙ ap (λ r. r >>= λ y. many more begins item y.rest >>= λ ys. found (y.value ∷ ys.value) ys.rest) e)
 
-pub Items-all : {T : Type 0} (begins : List Token → Bool) (item : List Token → Outcome T) (old : List Token) (front : List T) (ts : List Token) → Items begins item old front ts → begins ts ≡ false → many (length old) begins item old ≡ found front ts
-Items-all begins item old front ts r h = r.same ∙ ap (with_front front) (many-end r.more begins item ts h) ∙ ap (λ xs. found xs ts) (append-nil front)
+pub Items-all : {T : Type 0} (begins : List Token → Bool) (item : List Token → Outcome T) (whole : Outcome (List T)) (front : List T) (ts : List Token) → Items begins item whole front ts → begins ts ≡ false → whole ≡ found front ts
+Items-all begins item whole front ts r h = r.same ∙ ap (with_front front) (many-end r.more begins item ts h) ∙ ap (λ xs. found xs ts) (append-nil front)

@@ -6,7 +6,8 @@ use Rattle.std.proofs.lemmas.Option.{none-some}
 use Rattle.std.specs.Char.{is_ascii_digit, is_ascii_hexdigit}
 use Rattle.std.specs.List.{list_all}
 use Rattle.task_text.specs.declared.token.Lexeme.TheVariants.{Number, TooWide}
-use Rattle.task_text.specs.Spelling.{is_decimal, is_hexadecimal, is_word_byte, numeral, value, behind_two}
+use Rattle.task_ast.specs.NameToken.{is_word_byte}
+use Rattle.task_text.specs.Spelling.{is_decimal, is_hexadecimal, numeral, value, behind_two}
 use Rattle.task_text.specs.Cutting.{number_lexeme}
 use Rattle.task_text.proofs.Bytes.{list_all-mono, digit-word, hex-word}
 

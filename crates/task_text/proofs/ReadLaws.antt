@@ -16,11 +16,11 @@ use Rattle.task_text.specs.declared.error.TextError.TheVariants.{Syntax, NumberT
 use Rattle.task_text.specs.Division.{Piece, BreaksAt, start, tokens_of, end_of}
 use Rattle.task_text.specs.Divided.{IsDivided}
 use Rattle.task_text.specs.Grammar.{IsProgram}
-use Rattle.task_text.specs.Reading.{Found, found, first_place, program_at}
+use Rattle.task_text.specs.Reading.{Found, found, first_place}
+use Rattle.task_text.specs.ReadingProgram.{program_at}
 use Rattle.task_text.specs.Reads.{Reads, Refuses, IsCause, IsNarrow, IsFirstTooWide, IsTooWideAt, IsPlaceAmong, Answers, IsReading, IsResult, is_too_wide}
 use Rattle.task_text.proofs.DivisionLaws as division
-use Rattle.task_text.proofs.ItemsSound.{program-sound}
-use Rattle.task_text.proofs.ItemsComplete.{program-complete}
+use Rattle.task_text.proofs.ProgramLaws.{program-sound, program-complete}
 use Rattle.task_text.proofs.Stays.{program-place}
 use Rattle.task_text.proofs.TokenLaws.{not_found, same_found}
 

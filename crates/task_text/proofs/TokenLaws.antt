@@ -1,6 +1,8 @@
 -- The readings of one token: what is read is there, and what is there is read.
 use Rattle.std.proofs.Common.{◌≡◌, ℕ, true, false, cond, List, [], ◌∷◌, Ok, Err, refl, sym, ap, ◌∙◌, ◌⊎◌, inl, inr}
-use Rattle.std.proofs.lemmas.Bool.{cond-true, cond-false, cases_Bool, false≢true}
+use Rattle.std.proofs.lemmas.Bool.{cond-true, cond-false, cases_Bool, false≢true, eqb-true}
+use Rattle.std.proofs.lemmas.Slice.Eq.{bytes_eq-Decides}
+use Rattle.std.specs.Str.{bytes_eq}
 use denote.Enum.Bare.{same_true, true_same}
 use Rattle.ease_base.specs.declared.place.Pos.{Pos}
 use Rattle.task_ast.specs.declared.tree.Name.{Name}
@@ -13,7 +15,7 @@ use Rattle.task_text.specs.declared.token.Lexeme.TheVariants as lexeme
 use Rattle.task_text.specs.declared.token.Token.{Token}
 use Rattle.task_text.specs.declared.cursor.Numeral.{Numeral}
 use Rattle.task_text.specs.Grammar.{symbol, reserved, number, name}
-use Rattle.task_text.specs.Reading.{Found, Outcome, found, ◌>>=◌, is_symbol, is_reserved, begins_sign, begins_reserved, any_at, sign_at, reserved_at, name_at, number_at, name_of, number_of, taken}
+use Rattle.task_text.specs.Reading.{Found, Outcome, found, ◌>>=◌, is_symbol, is_reserved, begins_sign, begins_reserved, is_same, is_zero, any_at, same_at, zero_at, sign_at, reserved_at, name_at, number_at, name_of, number_of, taken}
 
 pub not_found : {T : Type 0} (x : T) (ts us : List Token) → ◌≡◌ {A = Outcome T} (Err us) (found x ts) → ⊥
 not_found x ts us e = cc
@@ -109,3 +111,45 @@ name-complete x us = refl
 pub number-complete : (n : ℕ) (at : Pos) (us : List Token) → number_at (number n at ∷ us) ≡ found (record { value = n; at = at }) us
 unfolding number_at
 number-complete n at us = refl
+
+-- the same name again
+same-is : (text : List ℕ) (l : Lexeme) → is_same text l ≡ true → l ≡ lexeme.Name text
+same-is text (lexeme.Name x) h = ap lexeme.Name ((bytes_eq-Decides x text).0 h)
+same-is text (lexeme.Number n) h = absurd (false≢true h)
+same-is text lexeme.TooWide h = absurd (false≢true h)
+same-is text (lexeme.Reserved k) h = absurd (false≢true h)
+same-is text (lexeme.Symbol s) h = absurd (false≢true h)
+
+same-cases : (text : List ℕ) (t : Token) (ts us : List Token) (at : Pos) → cond (is_same text t.lexeme) (found t.at ts) (Err (t ∷ ts)) ≡ found at us → (is_same text t.lexeme ≡ true) ⊎ (is_same text t.lexeme ≡ false) → t ∷ ts ≡ name (record { text = text; at = at }) ∷ us
+same-cases text t ts us at h (inl held) = token-is (lexeme.Name text) t ts us at (same-is text t.lexeme held) (sym (cond-true (is_same text t.lexeme) (found t.at ts) (Err (t ∷ ts)) held) ∙ h)
+same-cases text t ts us at h (inr failed) = absurd (not_found at us (t ∷ ts) (sym (cond-false (is_same text t.lexeme) (found t.at ts) (Err (t ∷ ts)) failed) ∙ h))
+
+pub same-sound : (text : List ℕ) (ts us : List Token) (at : Pos) → same_at text ts ≡ found at us → ts ≡ name (record { text = text; at = at }) ∷ us
+unfolding same_at any_at
+same-sound text [] us at h = absurd (not_found at us [] h)
+same-sound text (t ∷ ts) us at h = same-cases text t ts us at h (cases_Bool (is_same text t.lexeme))
+
+pub same-complete : (text : List ℕ) (at : Pos) (us : List Token) → same_at text (name (record { text = text; at = at }) ∷ us) ≡ found at us
+unfolding same_at any_at
+same-complete text at us = cond-true (bytes_eq text text) (found at us) (Err (name (record { text = text; at = at }) ∷ us)) ((bytes_eq-Decides text text).1 refl)
+
+-- a number of value 0
+zero-is : (l : Lexeme) → is_zero l ≡ true → l ≡ lexeme.Number 0
+zero-is (lexeme.Number n) h = ap lexeme.Number (eqb-true n 0 h)
+zero-is (lexeme.Name text) h = absurd (false≢true h)
+zero-is lexeme.TooWide h = absurd (false≢true h)
+zero-is (lexeme.Reserved k) h = absurd (false≢true h)
+zero-is (lexeme.Symbol s) h = absurd (false≢true h)
+
+zero-cases : (t : Token) (ts us : List Token) (at : Pos) → cond (is_zero t.lexeme) (found t.at ts) (Err (t ∷ ts)) ≡ found at us → (is_zero t.lexeme ≡ true) ⊎ (is_zero t.lexeme ≡ false) → t ∷ ts ≡ number 0 at ∷ us
+zero-cases t ts us at h (inl held) = token-is (lexeme.Number 0) t ts us at (zero-is t.lexeme held) (sym (cond-true (is_zero t.lexeme) (found t.at ts) (Err (t ∷ ts)) held) ∙ h)
+zero-cases t ts us at h (inr failed) = absurd (not_found at us (t ∷ ts) (sym (cond-false (is_zero t.lexeme) (found t.at ts) (Err (t ∷ ts)) failed) ∙ h))
+
+pub zero-sound : (ts us : List Token) (at : Pos) → zero_at ts ≡ found at us → ts ≡ number 0 at ∷ us
+unfolding zero_at any_at
+zero-sound [] us at h = absurd (not_found at us [] h)
+zero-sound (t ∷ ts) us at h = zero-cases t ts us at h (cases_Bool (is_zero t.lexeme))
+
+pub zero-complete : (at : Pos) (us : List Token) → zero_at (number 0 at ∷ us) ≡ found at us
+unfolding zero_at any_at
+zero-complete at us = refl

@@ -11,11 +11,12 @@ use Rattle.task_text.specs.declared.error.TextError.{TextError}
 use Rattle.task_text.specs.declared.error.TextError.TheVariants.{Syntax, NumberTooWide}
 use Rattle.task_text.specs.Division.{Piece, Divides, BeginsWith, IsStuck, Fits, start, tokens_of, end_of}
 use Rattle.task_text.specs.Cutting.{first_cut}
-use Rattle.task_text.specs.Reading.{Outcome, first_place, program_at}
+use Rattle.task_text.specs.Reading.{Outcome, first_place}
+use Rattle.task_text.specs.ReadingProgram.{program_at}
 use Rattle.task_text.specs.Reads.{Reads, Refuses, IsNarrow, IsFirstTooWide, is_too_wide}
 use Rattle.task_text.proofs.CutSound.{cut_sound}
 use Rattle.task_text.proofs.DivisionLaws.{piece-cut}
-use Rattle.task_text.proofs.ItemsSound.{program-sound}
+use Rattle.task_text.proofs.ProgramLaws.{program-sound}
 use Rattle.task_text.proofs.ReadLaws.{narrow-from, wide-is, reading-refused}
 
 -- as far as a text can be divided

@@ -10,7 +10,8 @@ use Rattle.task_text.specs.declared.token.Lexeme.{Lexeme}
 use Rattle.task_text.specs.declared.token.Lexeme.TheVariants.{Name, Number, TooWide, Reserved, Symbol}
 use Rattle.task_text.specs.declared.cut.Cut.{Cut}
 use Rattle.task_text.specs.declared.token.TheConstants.{KEYWORDS, SIGNS}
-use Rattle.task_text.specs.Spelling.{letters, marks, numeral, is_word_byte}
+use Rattle.task_ast.specs.NameToken.{is_word_byte}
+use Rattle.task_text.specs.Spelling.{letters, marks, numeral}
 use Rattle.task_text.specs.Division.{is_white}
 
 -- the reserved word with these letters

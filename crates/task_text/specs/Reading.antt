@@ -1,25 +1,12 @@
--- How trees are read off the tokens: each reading gives a value and the tokens behind it, or the tokens where it breaks off.
-use Rattle.std.specs.Prelude.{◌≡◌, ℕ, zero, suc, ◌+◌, ◌==◌, max, nat_lt, Bool, true, false, if◌then◌else◌, List, [], ◌∷◌, length, Option, Some, None, Result, Ok, Err}
+-- How trees are read off the tokens: each reading gives a value and the tokens behind it, or the tokens where it breaks off. Here are the readings of one token.
+use Rattle.std.specs.Prelude.{◌≡◌, ℕ, zero, suc, ◌==◌, bytes_eq, Bool, true, false, if◌then◌else◌, List, [], ◌∷◌, length, Option, Some, None, Result, Ok, Err}
 use denote.Enum.Bare.{sameb}
 use Rattle.ease_base.specs.declared.place.Pos.{Pos}
-use Rattle.task_ast.specs.declared.tree.Op2.TheVariants.{Add}
-use Rattle.task_ast.specs.declared.tree.Kind.TheVariants.{Nv}
 use Rattle.task_ast.specs.declared.tree.Name.{Name}
-use Rattle.task_ast.specs.declared.tree.Expr.TheVariants as expr
-use Rattle.task_ast.specs.declared.tree.Target.TheVariants as target
-use Rattle.task_ast.specs.declared.tree.Stmt.{Stmt}
-use Rattle.task_ast.specs.declared.tree.Stmt.TheVariants as stmt
-use Rattle.task_ast.specs.declared.tree.Exit.{Exit}
-use Rattle.task_ast.specs.declared.tree.Exit.TheVariants as exit
-use Rattle.task_ast.specs.declared.tree.Decl.{Decl}
-use Rattle.task_ast.specs.declared.tree.Decl.TheVariants as decl
-use Rattle.task_ast.specs.declared.tree.Task.{Task}
-use Rattle.task_ast.specs.declared.tree.Program.{Program}
 use Rattle.task_text.specs.declared.token.Keyword.{Keyword}
 use Rattle.task_text.specs.declared.token.Keyword.TheVariants as keyword
 use Rattle.task_text.specs.contracts.token.Keyword.{the_type as keywords}
 use Rattle.task_text.specs.declared.token.Sign.{Sign}
-use Rattle.task_text.specs.declared.token.Sign.TheVariants as sign
 use Rattle.task_text.specs.contracts.token.Sign.{the_type as signs}
 use Rattle.task_text.specs.declared.token.Lexeme.{Lexeme}
 use Rattle.task_text.specs.declared.token.Lexeme.TheVariants as lexeme
@@ -27,8 +14,6 @@ use Rattle.task_text.specs.declared.token.Token.{Token}
 use Rattle.task_text.specs.declared.error.ReadError.{ReadError}
 use Rattle.task_text.specs.declared.error.ReadError.TheVariants.{Syntax, NoMemory}
 use Rattle.task_text.specs.declared.cursor.Numeral.{Numeral}
-use Rattle.task_text.specs.declared.expr.Deep.{Deep}
-use Rattle.task_text.specs.Grammar.{deepest}
 
 -- what is read, and the tokens behind it
 pub record Found (T : Type 0) : Type 0 where
@@ -87,6 +72,45 @@ abbrev pub begins_name : List Token → Bool
 begins_name [] = false
 begins_name (t ∷ ts) = is_name t.lexeme
 
+-- the words that a declaration begins with
+abbrev pub is_declaring : Lexeme → Bool
+is_declaring (lexeme.Reserved keyword.Const) = true
+is_declaring (lexeme.Reserved keyword.Nv) = true
+is_declaring (lexeme.Reserved keyword.Word) = true
+is_declaring _ = false
+
+abbrev pub begins_decl : List Token → Bool
+begins_decl [] = false
+begins_decl (t ∷ ts) = is_declaring t.lexeme
+
+-- what a statement begins with
+abbrev pub is_acting : Lexeme → Bool
+is_acting (lexeme.Name x) = true
+is_acting (lexeme.Reserved keyword.If) = true
+is_acting (lexeme.Reserved keyword.For) = true
+is_acting _ = false
+
+abbrev pub begins_stmt : List Token → Bool
+begins_stmt [] = false
+begins_stmt (t ∷ ts) = is_acting t.lexeme
+
+-- this name again, and the number 0
+abbrev pub is_same : List ℕ → Lexeme → Bool
+is_same text (lexeme.Name x) = bytes_eq x text
+is_same text _ = false
+
+abbrev pub begins_same : List ℕ → List Token → Bool
+begins_same text [] = false
+begins_same text (t ∷ ts) = is_same text t.lexeme
+
+abbrev pub is_zero : Lexeme → Bool
+is_zero (lexeme.Number n) = n == 0
+is_zero _ = false
+
+abbrev pub begins_zero : List Token → Bool
+begins_zero [] = false
+begins_zero (t ∷ ts) = is_zero t.lexeme
+
 unfoldable pub any_at : List Token → Outcome Pos
 any_at [] = Err []
 any_at (t ∷ ts) = found t.at ts
@@ -118,54 +142,19 @@ unfoldable pub number_at : List Token → Outcome Numeral
 number_at [] = Err []
 number_at (t ∷ ts) = taken (number_of t.lexeme t.at) t ts
 
--- ---- expressions
+unfoldable pub same_at : List ℕ → List Token → Outcome Pos
+same_at text ts = if begins_same text ts then any_at ts else Err ts
 
-abbrev pub scalar : Name → Deep
-scalar x = record { expr = expr.Read x; depth = 1 }
+unfoldable pub zero_at : List Token → Outcome Pos
+zero_at ts = if begins_zero ts then any_at ts else Err ts
 
-abbrev pub literal : Numeral → Deep
-literal n = record { expr = expr.Number n.value n.at; depth = 1 }
-
-abbrev pub parenthesized : Deep → Deep
-parenthesized d = record { expr = expr.Paren d.expr; depth = d.depth + 1 }
-
-abbrev pub sum : Deep → Deep → Deep
-sum a b = record { expr = expr.Two Add a.expr b.expr; depth = max a.depth b.depth + 1 }
-
--- a scalar or a number
-unfoldable pub atom_at : List Token → Outcome Deep
-atom_at ts = if begins_name ts then (name_at ts >>= λ x. found (scalar x.value) x.rest) else (number_at ts >>= λ n. found (literal n.value) n.rest)
-
--- `( expr )`, by the reading of what is inside
-unfoldable pub paren_of : (List Token → Outcome Deep) → List Token → Outcome Deep
-paren_of inner ts = do
-  a ← sign_at sign.ParenOpen ts
-  e ← inner a.rest
-  b ← sign_at sign.ParenClose e.rest
-  found (parenthesized e.value) b.rest
-
-unfoldable pub part_of : (List Token → Outcome Deep) → List Token → Outcome Deep
-part_of inner ts = if begins_sign sign.ParenOpen ts then paren_of inner ts else atom_at ts
-
--- What goes on behind the left part, by so many more `+` at most. The whole is at most so deep, and a right part is read by `part`.
-unfoldable pub sum_from : ℕ → ℕ → (List Token → Outcome Deep) → Deep → List Token → Outcome Deep
-sum_from zero allowed part left ts = if begins_sign sign.Plus ts then Err ts else found left ts
-sum_from (suc more) allowed part left ts =
-    if begins_sign sign.Plus ts then
-    (if nat_lt left.depth allowed then
-    (sign_at sign.Plus ts >>= λ a. part a.rest >>= λ right. sum_from more allowed part (sum left right.value) right.rest)
-    else Err ts)
-    else found left ts
-
--- a part and an expression that are at most so deep
-unfoldable mutual
-  pub part_at : ℕ → List Token → Outcome Deep
-  part_at zero ts = Err ts
-  part_at (suc n) ts = part_of (expr_at n) ts
-
-  pub expr_at : ℕ → List Token → Outcome Deep
-  expr_at zero ts = Err ts
-  expr_at (suc n) ts = part_of (expr_at n) ts >>= λ left. sum_from (suc n) (suc n) (part_at n) left.value left.rest
+-- what stands between two signs
+unfoldable pub between : {T : Type 0} → Sign → Sign → (List Token → Outcome T) → List Token → Outcome T
+between first last inner ts = do
+  a ← sign_at first ts
+  x ← inner a.rest
+  b ← sign_at last x.rest
+  found x.value b.rest
 
 -- ---- items
 
@@ -174,68 +163,3 @@ unfoldable pub many : {T : Type 0} → ℕ → (List Token → Bool) → (List T
 many zero begins item ts = found [] ts
 many (suc n) begins item ts =
     if begins ts then (item ts >>= λ x. many n begins item x.rest >>= λ xs. found (x.value ∷ xs.value) xs.rest) else found [] ts
-
--- nothing, or `= NUM`
-unfoldable pub init_at : List Token → Outcome (List ℕ)
-init_at ts = if begins_sign sign.Equal ts then (sign_at sign.Equal ts >>= λ a. number_at a.rest >>= λ n. found (n.value.value ∷ []) n.rest) else found [] ts
-
-unfoldable pub decl_at : List Token → Outcome Decl
-decl_at ts = do
-  a ← reserved_at keyword.Nv ts
-  b ← reserved_at keyword.Word a.rest
-  x ← name_at b.rest
-  values ← init_at x.rest
-  c ← sign_at sign.Semicolon values.rest
-  found (decl.Words Nv x.value None values.value) c.rest
-
-unfoldable pub stmt_at : List Token → Outcome Stmt
-stmt_at ts = do
-  x ← name_at ts
-  a ← sign_at sign.Equal x.rest
-  e ← expr_at deepest a.rest
-  b ← sign_at sign.Semicolon e.rest
-  found (stmt.Assign (target.Scalar x.value) e.value.expr) b.rest
-
-unfoldable pub next_at : List Token → Outcome Exit
-next_at ts = do
-  a ← reserved_at keyword.Next ts
-  b ← sign_at sign.ParenOpen a.rest
-  x ← name_at b.rest
-  c ← sign_at sign.ParenClose x.rest
-  d ← sign_at sign.Semicolon c.rest
-  found (exit.Next x.value) d.rest
-
-unfoldable pub stop_at : List Token → Outcome Exit
-stop_at ts = do
-  a ← reserved_at keyword.Stop ts
-  b ← sign_at sign.Semicolon a.rest
-  found exit.Stop b.rest
-
-unfoldable pub exit_at : List Token → Outcome Exit
-exit_at ts = if begins_reserved keyword.Next ts then next_at ts else stop_at ts
-
-abbrev pub stmts_at : List Token → Outcome (List Stmt)
-stmts_at ts = many (length ts) begins_name stmt_at ts
-
-unfoldable pub task_at : List Token → Outcome Task
-task_at ts = do
-  a ← reserved_at keyword.Task ts
-  x ← name_at a.rest
-  b ← sign_at sign.BraceOpen x.rest
-  body ← stmts_at b.rest
-  e ← exit_at body.rest
-  close ← sign_at sign.BraceClose e.rest
-  found (record { name = x.value; body = body.value; exit = e.value; close = close.value }) close.rest
-
-abbrev pub decls_at : List Token → Outcome (List Decl)
-decls_at ts = many (length ts) (begins_reserved keyword.Nv) decl_at ts
-
-abbrev pub tasks_at : List Token → Outcome (List Task)
-tasks_at ts = many (length ts) (begins_reserved keyword.Task) task_at ts
-
--- a program, if it has a task and no token is left
-abbrev pub whole : Program → List Token → Outcome Program
-whole p ts = if is_empty p.tasks then Err ts else (if is_empty ts then found p ts else Err ts)
-
-unfoldable pub program_at : List Token → Outcome Program
-program_at ts = decls_at ts >>= λ decls. tasks_at decls.rest >>= λ tasks. whole (record { decls = decls.value; tasks = tasks.value }) tasks.rest

@@ -1,7 +1,8 @@
 -- How tokens are spelled: names, numbers, reserved words and signs (docs/LANGUAGE.md, "Tokens").
 use Rattle.std.specs.Prelude.{◌≡◌, ◌≢◌, ℕ, ◌+◌, ◌-◌, ◌*◌, ◌^◌, ◌<◌, ◌≤◌, Bool, false, not, ◌&&◌, ◌||◌, if◌then◌else◌, ◌==◌, nat_le, IsTrue, List, [], ◌∷◌, fold, Option, Some, None, codes}
-use Rattle.std.specs.Char.{is_ascii_alphabetic, is_ascii_digit, is_ascii_alphanumeric, is_ascii_hexdigit}
+use Rattle.std.specs.Char.{is_ascii_digit, is_ascii_hexdigit}
 use Rattle.std.specs.List.{list_all}
+use Rattle.task_ast.specs.NameToken.{is_name, is_word_byte}
 use Rattle.task_text.specs.declared.token.Keyword.{Keyword}
 use Rattle.task_text.specs.declared.token.Keyword.TheVariants as keyword
 use Rattle.task_text.specs.declared.token.Sign.{Sign}
@@ -72,19 +73,6 @@ longer sign.Slash = codes "/*"
 longer sign.Less = codes "<="
 longer sign.Greater = codes ">="
 longer _ = []
-
--- a letter or `_`
-abbrev pub is_letter : ℕ → Bool
-is_letter b = is_ascii_alphabetic b || b == 95
-
--- a letter, a digit or `_`, which goes on with a name or spoils a number
-abbrev pub is_word_byte : ℕ → Bool
-is_word_byte b = is_ascii_alphanumeric b || b == 95
-
--- a letter or `_`, then letters, digits and `_`
-abbrev pub is_name : List ℕ → Bool
-is_name [] = false
-is_name (b ∷ bs) = is_letter b && list_all is_word_byte bs
 
 -- digits without a leading zero, or 0 alone
 abbrev pub is_decimal : List ℕ → Bool

@@ -2,13 +2,15 @@
 ghost use Rattle.std.specs.Prelude.{◌≡◌, ◌==◌, length};
 ghost use Rattle.task_text.specs.Reading as spec;
 ghost use Rattle.task_text.specs.Reading.{Gives};
+ghost use Rattle.task_text.specs.ReadingExpr as exprs;
 
 use crate::error::ReadError;
+use crate::operator::{binary_of, is_tight, unary_of};
 use crate::token::{Keyword, Lexeme, Sign, Token};
 use ease_base::{List, Pos};
 use std::alloc::Global;
 use std::marker::Model;
-use task_ast::Name;
+use task_ast::{Name, Op1, Op2};
 
 /// The tokens that are left.
 #[derive(Drop)]
@@ -55,6 +57,48 @@ fn is_name(lexeme: &Lexeme) -> bool
 {
     match lexeme {
         Lexeme::Name(_) => true,
+        _ => false,
+    }
+}
+
+/// Whether a declaration begins so.
+fn is_declaring(lexeme: &Lexeme) -> bool
+    ensures { result ≡ spec.is_declaring lexeme.now }
+{
+    match lexeme {
+        Lexeme::Reserved(Keyword::Const) => true,
+        Lexeme::Reserved(Keyword::Nv) => true,
+        Lexeme::Reserved(Keyword::Word) => true,
+        _ => false,
+    }
+}
+
+/// Whether a statement begins so.
+fn is_acting(lexeme: &Lexeme) -> bool
+    ensures { result ≡ spec.is_acting lexeme.now }
+{
+    match lexeme {
+        Lexeme::Name(_) => true,
+        Lexeme::Reserved(Keyword::If) => true,
+        Lexeme::Reserved(Keyword::For) => true,
+        _ => false,
+    }
+}
+
+fn is_same(lexeme: &Lexeme, text: &[u8]) -> bool
+    ensures { result ≡ spec.is_same text.now lexeme.now }
+{
+    match lexeme {
+        Lexeme::Name(found) => found.as_slice() == text,
+        _ => false,
+    }
+}
+
+fn is_zero(lexeme: &Lexeme) -> bool
+    ensures { result ≡ spec.is_zero lexeme.now }
+{
+    match lexeme {
+        Lexeme::Number(n) => *n == 0,
         _ => false,
     }
 }
@@ -109,6 +153,43 @@ impl<'a> Cursor<'a> {
         }
     }
 
+    pub fn begins_decl(&self) -> bool
+        ensures { result ≡ spec.begins_decl self.now }
+    {
+        match self.left.first() {
+            Some(token) => is_declaring(&token.lexeme),
+            None => false,
+        }
+    }
+
+    pub fn begins_stmt(&self) -> bool
+        ensures { result ≡ spec.begins_stmt self.now }
+    {
+        match self.left.first() {
+            Some(token) => is_acting(&token.lexeme),
+            None => false,
+        }
+    }
+
+    /// Whether the next token is a name of these bytes.
+    fn begins_same(&self, text: &[u8]) -> bool
+        ensures { result ≡ spec.begins_same text.now self.now }
+    {
+        match self.left.first() {
+            Some(token) => is_same(&token.lexeme, text),
+            None => false,
+        }
+    }
+
+    fn begins_zero(&self) -> bool
+        ensures { result ≡ spec.begins_zero self.now }
+    {
+        match self.left.first() {
+            Some(token) => is_zero(&token.lexeme),
+            None => false,
+        }
+    }
+
     /// Takes one token, and gives its place.
     #[tactic(auto, unfolding(crate::specs::Reading::any_at))]
     fn any(&mut self) -> Result<Pos, ReadError>
@@ -138,6 +219,28 @@ impl<'a> Cursor<'a> {
         ensures { Gives (spec.reserved_at keyword self.old) result self.new }
     {
         if !self.begins_reserved(keyword) {
+            return Err(ReadError::Syntax);
+        }
+        self.any()
+    }
+
+    /// Takes this name again.
+    #[tactic(auto, unfolding(crate::specs::Reading::same_at))]
+    pub fn same(&mut self, text: &[u8]) -> Result<Pos, ReadError>
+        ensures { Gives (spec.same_at text.now self.old) result self.new }
+    {
+        if !self.begins_same(text) {
+            return Err(ReadError::Syntax);
+        }
+        self.any()
+    }
+
+    /// Takes a number of value 0.
+    #[tactic(auto, unfolding(crate::specs::Reading::zero_at))]
+    pub fn zero(&mut self) -> Result<Pos, ReadError>
+        ensures { Gives (spec.zero_at self.old) result self.new }
+    {
+        if !self.begins_zero() {
             return Err(ReadError::Syntax);
         }
         self.any()
@@ -175,5 +278,54 @@ impl<'a> Cursor<'a> {
             value: *value,
             at: token.at,
         })
+    }
+
+    /// Whether a binary operator is next that binds at least so tightly.
+    pub fn begins_operator(&self, level: u32) -> bool
+        ensures { result ≡ exprs.begins_operator level self.now }
+    {
+        match self.left.first() {
+            Some(token) => is_tight(level, binary_of(&token.lexeme)),
+            None => false,
+        }
+    }
+
+    pub fn begins_prefix(&self) -> bool
+        ensures { result ≡ exprs.begins_prefix self.now }
+    {
+        match self.left.first() {
+            Some(token) => unary_of(&token.lexeme).is_some(),
+            None => false,
+        }
+    }
+
+    /// Takes a binary operator.
+    #[tactic(auto, unfolding(crate::specs::ReadingExpr::operator_at))]
+    pub fn operator(&mut self) -> Result<Op2, ReadError>
+        ensures { Gives (exprs.operator_at self.old) result self.new }
+    {
+        let Some((token, rest)) = self.left.split_first() else {
+            return Err(ReadError::Syntax);
+        };
+        let Some(op) = binary_of(&token.lexeme) else {
+            return Err(ReadError::Syntax);
+        };
+        self.left = rest;
+        Ok(op)
+    }
+
+    /// Takes a prefix.
+    #[tactic(auto, unfolding(crate::specs::ReadingExpr::prefix_at))]
+    pub fn prefix(&mut self) -> Result<Op1, ReadError>
+        ensures { Gives (exprs.prefix_at self.old) result self.new }
+    {
+        let Some((token, rest)) = self.left.split_first() else {
+            return Err(ReadError::Syntax);
+        };
+        let Some(op) = unary_of(&token.lexeme) else {
+            return Err(ReadError::Syntax);
+        };
+        self.left = rest;
+        Ok(op)
     }
 }

@@ -3,6 +3,7 @@ ghost use Rattle.std.specs.Prelude.{◌≡◌, ◌≤◌, ◌+◌, ◌-◌, ◌^
 ghost use Rattle.std.specs.Char.{is_ascii_digit, is_ascii_hexdigit};
 ghost use Rattle.std.specs.List.{list_all, take_while};
 ghost use Rattle.std.specs.Option.{option_map};
+ghost use Rattle.task_ast.specs.NameToken as names;
 ghost use Rattle.task_text.specs.Spelling as spelling;
 ghost use Rattle.task_text.specs.Division as division;
 ghost use Rattle.task_text.specs.Cutting as spec;
@@ -28,7 +29,7 @@ fn is_white(b: u8) -> bool
 }
 
 fn is_word_byte(b: u8) -> bool
-    ensures { result ≡ spelling.is_word_byte b }
+    ensures { result ≡ names.is_word_byte b }
 {
     b.is_ascii_alphanumeric() || b == b'_'
 }
@@ -150,7 +151,7 @@ fn number_lexeme(run: &[u8]) -> Option<Lexeme>
 
 /// How many bytes there are at the front of letters, digits and `_`.
 fn run_len(text: &[u8]) -> usize
-    ensures value { result ≡ length (take_while spelling.is_word_byte text.now) }
+    ensures value { result ≡ length (take_while names.is_word_byte text.now) }
     ensures within { result ≤ length text.now }
 {
     text.iter().take_while(|b| is_word_byte(**b)).count()

@@ -1,8 +1,11 @@
 //! Reads a program from its bytes.
-ghost use Rattle.std.specs.Prelude.{◌≡◌, ◌<◌, ◌⊎◌, length, List, ℕ, IfOk, IfErr, Ok, Err};
+ghost use Rattle.std.specs.Prelude.{◌≡◌, ◌↔◌, ◌<◌, ◌⊎◌, length, List, ℕ, IfOk, IfErr, Ok, Err};
 ghost use Rattle.ease_base.specs.declared.place.Pos.{Pos};
+ghost use Rattle.task_ast.specs.Readable.{IsReadable};
 ghost use Rattle.task_ast.specs.declared.tree.Program.{Program};
-ghost use Rattle.task_ast.specs.Counters.{IsCounterProgram};
+ghost use Rattle.op_table.specs.Reserved.{IsReserved};
+ghost use Rattle.task_text.specs.Spelling.{letters};
+ghost use Rattle.task_text.specs.declared.token.Keyword.{Keyword};
 ghost use Rattle.task_text.specs.declared.error.TextError.{TextError};
 ghost use Rattle.task_text.specs.declared.error.TextError.TheVariants.{Syntax, NumberTooWide};
 ghost use Rattle.task_text.specs.Division.{Piece, Divides, BreaksAt};
@@ -78,7 +81,8 @@ pub fn read_program(alloc: Global, text: &[u8]) -> Result<Program, TextError>
     ensures refused { IfErr result (IsCause text.now) }
     ensures breaks { (at : Pos) → BreaksAt text.now at → Answers result (Err (Syntax at)) }
     ensures wide { (at : Pos) → IsTooWideAt text.now at → Answers result (Err (NumberTooWide at)) }
-    ensures counters { IfOk result IsCounterProgram }
+    // Names are name tokens, numbers are words, and nothing is too deep.
+    ensures readable { IfOk result IsReadable }
 {
     read(alloc, text)
 }
@@ -97,4 +101,9 @@ pub fn one_tree()
 pub fn read_or_refused()
     ensures one { (text : List ℕ) → ((p : Program) × Reads text p) ⊎ ((e : TextError) × Refuses text e) }
     ensures not_both { (text : List ℕ) (p : Program) (e : TextError) → Reads text p → Refuses text e → ⊥ }
+{}
+
+/// The words that are no names are those of the table of reserved words.
+pub fn reserved_words_are_keywords()
+    ensures { (word : List ℕ) → IsReserved word ↔ ((k : Keyword) × (word ≡ letters k)) }
 {}

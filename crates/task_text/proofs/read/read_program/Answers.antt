@@ -1,4 +1,5 @@
-use Rattle.task_text.proofs.CountersLaws.{counters-from}
+use Rattle.std.proofs.Common.{arith}
+use Rattle.task_text.proofs.ReadableTrees.{readable-from}
 use Rattle.task_text.proofs.ReadLaws.{found-from, refused-from, only-from, breaks-from, wide-from}
 use Rattle.task_text.proofs.read.read_program.Goals as goal
 
@@ -9,5 +10,5 @@ returns c = record {
   refused = refused-from _ _ c.read.ensures;
   breaks = breaks-from _ _ c.read.ensures;
   wide = wide-from _ _ c.read.ensures;
-  counters = counters-from _ _ c.read.ensures;
+  readable = readable-from _ _ (omega (arith, c.requires)) c.read.ensures;
 }

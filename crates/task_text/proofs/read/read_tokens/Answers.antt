@@ -1,5 +1,5 @@
 use Rattle.std.proofs.Common.{sym, ap, subst, ◌∙◌, Err}
-use Rattle.task_text.specs.Reading.{program_at}
+use Rattle.task_text.specs.ReadingProgram.{program_at}
 use Rattle.task_text.specs.Reads.{IsReading}
 use Rattle.task_text.specs.declared.error.TextError.TheVariants.{Syntax}
 use Rattle.task_text.proofs.ReadLaws.{reading-found, reading-refused}

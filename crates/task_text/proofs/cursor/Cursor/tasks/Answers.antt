@@ -1,9 +1,10 @@
 use Rattle.std.proofs.Common.{sym, subst, ◌∙◌, refl}
 use Rattle.std.proofs.lemmas.Result.{err_from_is_err_and}
 use Rattle.task_text.specs.declared.token.Keyword.TheVariants as keyword
-use Rattle.task_text.specs.Reading.{begins_reserved, task_at}
+use Rattle.task_text.specs.Reading.{begins_reserved}
+use Rattle.task_text.specs.ReadingProgram.{task_at, tasks_at}
 use Rattle.task_text.proofs.Items.{Items, Items-more, Items-break, Items-all}
-use Rattle.task_text.proofs.ItemsSound.{task-takes}
+use Rattle.task_text.proofs.TaskLaws.{task-takes}
 use Rattle.task_text.proofs.Terms.{Gives-exit}
 use Rattle.task_text.proofs.cursor.Cursor.tasks.Goals as goal
 
@@ -17,7 +18,8 @@ items-smaller c = task-takes _ _ _ c.in_ok-task.ensures
 
 pub items-preserved : goal.items-preserved
 items-preserved c =
-    subst (λ xs. Items (begins_reserved keyword.Task) task_at c.args.self.now xs c.task.new.self) (sym c.in_ok-push.ensures.ok) (Items-more (begins_reserved keyword.Task) task_at _ _ _ _ _ refl task-takes c.items.invariant (sym c.begins_reserved.ensures ∙ c.items-test.true) c.in_ok-task.ensures)
+    subst (λ xs. Items (begins_reserved keyword.Task) task_at (tasks_at c.args.self.now) xs c.task.new.self) (sym c.in_ok-push.ensures.ok)
+    (Items-more (begins_reserved keyword.Task) task_at _ _ _ _ _ refl task-takes c.items.invariant (sym c.begins_reserved.ensures ∙ c.items-test.true) c.in_ok-task.ensures)
 
 pub returns : goal.returns
 returns c = Items-all (begins_reserved keyword.Task) task_at _ _ _ c.items.invariant (sym c.begins_reserved.ensures ∙ c.items-test.false)
