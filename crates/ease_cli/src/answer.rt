@@ -3,7 +3,7 @@ ghost use Rattle.std.specs.Prelude.{◌≡◌, ◌≢◌, ◌⊎◌, ℕ, List, 
 ghost use Rattle.ease_base.specs.Count.{HasRisen, raised};
 ghost use Rattle.ease_cli.specs.Answer.{Says, files_of, run_status, SourceSays, ProgramSays, IsThere, SourceSettles, ProgramSettles};
 ghost use Rattle.ease_cli.specs.Lines.{check_line};
-ghost use Rattle.task_ast.specs.Counters.{IsCounterProgram};
+ghost use Rattle.task_ast.specs.Readable.{IsReadable};
 
 use crate::form::{WalkWords, walk_words};
 use crate::lines::{READ_FAULT, TOO_LONG, USAGE, limit_line, source_line, syntax_line};
@@ -70,7 +70,7 @@ fn source_answer(alloc: Global, source: &[u8], tasks: u32) -> Result<Answer, NoM
 // The answer to `walk` on a tree that was read.
 #[tactic(auto, using(crate::proofs::AnswerLemmas::run_says, crate::proofs::AnswerLemmas::run_settles))]
 fn program_answer(alloc: Global, program: &Program, tasks: u32) -> Result<Answer, NoMemory>
-    requires counters { IsCounterProgram program.now }
+    requires readable { IsReadable program.now }
     requires few { tasks ≤ 1000 }
     ensures says { IfOk result (λ a. ProgramSays program.now tasks a.status a.text) }
     ensures settled { IfOk result (λ a. ProgramSettles program.now a.status) }
