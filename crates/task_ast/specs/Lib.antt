@@ -1,7 +1,5 @@
-pub mod CoreCounters
 pub mod CoreExpressions
 pub mod CoreStatements
-pub mod Counters
 pub mod Exits
 pub mod NameToken
 pub mod Readable
