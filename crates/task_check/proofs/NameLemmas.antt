@@ -29,13 +29,6 @@ or_else_assoc (Some m) b c = refl
 pub extended-twice : (names : Meanings) (ds es : List Declared) → extended (extended names ds) es ≡ extended names (ds ++ es)
 extended-twice names ds es = λ i q. (or_else_assoc (names q) (look_up ds q) (look_up es q) ∙ ap (or_else (names q)) (sym (look_up-append ds es q))) i
 
-or_else_none : (a : Option Meaning) → or_else a None ≡ a
-or_else_none None = refl
-or_else_none (Some m) = refl
-
-pub extended-none : (names : Meanings) → extended names [] ≡ names
-extended-none names = λ i q. or_else_none (names q) i
-
 -- one more declaration
 pub declared_arrays-push : (n k : ℕ) (xs : List Decl) (d : Decl) → n + length xs ≡ k → declared_arrays n (xs ++ d ∷ []) ≡ declared_arrays n xs ++ (decl_text d, decl_meaning k d) ∷ []
 declared_arrays-push n k [] d e = let same : n ≡ k = omega arith in ap (λ (j : ℕ). (decl_text d, decl_meaning j d) ∷ []) same
@@ -58,18 +51,6 @@ among_declared n (x ∷ xs) q = by (bytes_eq q (decl_name x).text) (among_declar
 module _ (names : Meanings) (text : List ℕ) (m : Meaning) where
   same_text : (q : List ℕ) → bytes_eq q text ≡ true → names q ≡ names text
   same_text q e = ap names ((bytes_decides q text).0 e)
-
-  -- a name that is known stays as it is
-  pub known_stays : is_some (names text) ≡ true → extended names ((text, m) ∷ []) ≡ names
-  known_stays known = λ i q. at q i
-    where
-      by : (o : Option Meaning) (b : Bool) → (b ≡ true → is_some o ≡ true) → or_else o (if b then Some m else None) ≡ o
-      by (Some k) b h = refl
-      by None false h = refl
-      by None true h = absurd (true≢false (sym (h refl)))
-
-      at : (q : List ℕ) → extended names ((text, m) ∷ []) q ≡ names q
-      at q = by (names q) (bytes_eq q text) (λ e. ap is_some (same_text q e) ∙ known)
 
   absent : is_some (names text) ≡ false → names text ≡ None
   absent = by (names text)

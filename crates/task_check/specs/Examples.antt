@@ -133,7 +133,7 @@ first_bearer : faults (record { decls = word (t 9) ∷ []; tasks = task (t 17) (
 unfolding faults
 first_bearer = refl
 
--- `word i; const nv word c = 1;` with c spelled y, and arrays `nv word a[2]` and `word x[3]`
+-- `word i; const nv word y = 1; nv word a[2]; word x[3] = 7;`
 abbrev decls_of_four : List Decl
 decls_of_four = decl.Words Vol (i 1) None [] ∷ decl.Words Const (y 2) None (1 ∷ []) ∷ decl.Words Nv (a 3) (Some 2) [] ∷ decl.Words Vol (x 4) (Some 3) (7 ∷ []) ∷ []
 
