@@ -4,6 +4,8 @@
 mod answer;
 mod form;
 mod lines;
+#[cfg(test)]
+mod refusal_tests;
 mod status;
 #[cfg(test)]
 mod tests;

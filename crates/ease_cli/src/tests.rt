@@ -11,9 +11,9 @@ const COUNTER_TEXT: &str = "commit 0\nx = 0\nend stopped\n";
 
 // What a run of `ease` left.
 #[derive(Drop)]
-struct Ran {
-    status: Status,
-    out: MemSink,
+pub struct Ran {
+    pub status: Status,
+    pub out: MemSink,
 }
 
 // The words as `ease` takes them.
@@ -31,7 +31,7 @@ fn calls(alloc: Global, numbers: &[u32]) -> Result<Words, NoMemory> {
 }
 
 // Runs `ease` on a cabinet with the one file `p`, and a sink with room for so many bytes.
-fn run(alloc: Global, line: &[&str], source: &str, room: usize) -> Result<Ran, NoMemory> {
+pub fn run(alloc: Global, line: &[&str], source: &str, room: usize) -> Result<Ran, NoMemory> {
     let mut files = MemCabinet::make(alloc, Words::new(alloc));
     files.put("p", source.as_bytes())?;
     let mut out = MemSink::make(alloc, room, Words::new(alloc))?;
@@ -62,50 +62,97 @@ fn walk_writes_the_states_of_the_unbroken_run(rt: HostRuntime) -> Result<(), Fai
 }
 
 #[test]
-fn a_refused_source_writes_the_line_of_its_first_fault(rt: HostRuntime) -> Result<(), Fail> {
+fn a_trap_ends_the_run_after_the_states_before_it(rt: HostRuntime) -> Result<(), Fail> {
+    let indexing =
+        "nv word a[2] = {1, 2}; nv word i; task t { i = 2; NEXT(u); } task u { a[i] = 9; STOP; }";
     let cases = [
-        ("", "source syntax at 1:1\n"),
-        ("task t { x = 1; STOP; }", "source 1:10 unknown-name\n"),
         (
-            "nv word x = 4294967296; task t { STOP; }",
-            "source 1:13 number-too-wide\n",
+            indexing,
+            "5",
+            Status::Trapped,
+            "commit 2\na = 1 2\ni = 2\nend trapped 1\n",
         ),
         (
-            "nv word x; nv word x; task t { STOP; }",
-            "source 1:20 twice-named\n",
-        ),
-        ("nv word t; task t { STOP; }", "source 1:17 twice-named\n"),
-        ("task t { NEXT(u); }", "source 1:15 unknown-name\n"),
-        ("nv word x; task t { NEXT(x); }", "source 1:26 wrong-kind\n"),
-        ("task t { t = 1; STOP; }", "source 1:10 wrong-kind\n"),
-        (
-            "nv word x; task t { x = t; STOP; }",
-            "source 1:25 wrong-kind\n",
+            indexing,
+            "1",
+            Status::Ok,
+            "commit 2\na = 1 2\ni = 2\nend limit\n",
         ),
         (
-            "nv word x; task t { x = 1 + y; NEXT(z); }",
-            "source 1:29 unknown-name\n",
+            "nv word x; task t { x = 1 / x; STOP; }",
+            "5",
+            Status::Trapped,
+            "end trapped 2\n",
         ),
         (
-            "nv word x;\r\ntask t {\r\n\ty = x;\r\n\tSTOP; }",
-            "source 3:2 unknown-name\n",
+            "nv word x = 7; task t { x = x % 0; STOP; }",
+            "5",
+            Status::Trapped,
+            "end trapped 2\n",
         ),
         (
-            "nv word x @ 4294967296; task t { STOP; }",
-            "source syntax at 1:11\n",
+            "nv word a[1]; task t { if (a[1]) STOP; else STOP; }",
+            "5",
+            Status::Trapped,
+            "end trapped 1\n",
         ),
-        ("task t { STOP; } /* open", "source syntax at 1:18\n"),
         (
-            "nv word x = 01; task t { STOP; }",
-            "source syntax at 1:13\n",
+            "nv word a[1]; task t { a[1] = 1 / 0; STOP; }",
+            "5",
+            Status::Trapped,
+            "end trapped 1\n",
         ),
-        ("nv word \u{e9}; task t { STOP; }", "source syntax at 1:9\n"),
-        ("nv word x;", "source syntax at 1:11\n"),
+        (
+            "nv word x = 3; task t { x = (0 && 1 / 0) + (2 || 1 / 0); STOP; }",
+            "5",
+            Status::Ok,
+            "commit 0\nx = 1\nend stopped\n",
+        ),
     ];
-    for (source, line) in cases {
+    for (source, tasks, status, text) in cases {
+        let ran = run(rt.alloc(), &["walk", "p", tasks], source, 1_000)?;
+        assert_eq!(rt; ran.status, status, "for {source:?}");
+        assert_eq!(rt; ran.out.taken(), text.as_bytes(), "for {source:?}");
+    }
+    Ok(())
+}
+
+#[test]
+fn statements_do_what_they_say(rt: HostRuntime) -> Result<(), Fail> {
+    let cases = [
+        (
+            "nv word s; word i; task t { for (i = 0; i < 5; i++) { s = s + i; } s = s * 10 + i; STOP; }",
+            "commit 0\ns = 105\nend stopped\n",
+        ),
+        (
+            "nv word s = 1; word i = 9; task t { for (i = 0; i < 0; i++) { s = 7; } s = s + i; STOP; }",
+            "commit 0\ns = 1\nend stopped\n",
+        ),
+        (
+            "nv word s; word i; task t { for (i = 0; i < 1; i++) { s = s + 1; } s = s + i; STOP; }",
+            "commit 0\ns = 2\nend stopped\n",
+        ),
+        (
+            "nv word n; word v = 4; task a { v = v + 1; n = n + v; if (n < 10) NEXT(a); else STOP; }",
+            "commit 1\nn = 5\ncommit 0\nn = 10\nend stopped\n",
+        ),
+        (
+            "nv word a[3] = {5, 6}; const nv word c = 2; nv word x; task t { if (a[c]) { x = 1; } else { a[c] = a[0] - a[1]; } STOP; }",
+            "commit 0\na = 5 6 4294967295\nx = 0\nend stopped\n",
+        ),
+        (
+            "nv word r[8]; task t { r[0] = 1 << 31; r[1] = 1 << 32; r[2] = 4294967295 >> 31; r[3] = 1 >> 32; r[4] = -1; r[5] = ~0; r[6] = !7; r[7] = 7 - 2 - 1; STOP; }",
+            "commit 0\nr = 2147483648 0 1 0 4294967295 4294967295 0 4\nend stopped\n",
+        ),
+        (
+            "nv word r[4]; task t { r[0] = 1 + 2 * 3; r[1] = 1 << 1 + 1; r[2] = 6 & 3 == 3; r[3] = 1 | 2 ^ 3 & 4; STOP; }",
+            "commit 0\nr = 7 4 0 3\nend stopped\n",
+        ),
+    ];
+    for (source, text) in cases {
         let ran = run(rt.alloc(), &["walk", "p", "5"], source, 1_000)?;
-        assert_eq!(rt; ran.status, Status::SourceRefused, "for {source:?}");
-        assert_eq!(rt; ran.out.taken(), line.as_bytes(), "for {source:?}");
+        assert_eq!(rt; ran.status, Status::Ok, "for {source:?}");
+        assert_eq!(rt; ran.out.taken(), text.as_bytes(), "for {source:?}");
     }
     Ok(())
 }

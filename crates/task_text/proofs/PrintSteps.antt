@@ -58,7 +58,7 @@ pub two_put : {E : Type 0} (r : Result (Unit {0}) E) (e left right a b : Expr) (
 two_put (Err x) e left right a b o s before mid after is at_left at_right at_sign h k = tt
 two_put (Ok done) e left right a b o s before mid after is at_left at_right at_sign h k =
     let tokens : expr_tokens left ++ (mark s ++ expr_tokens right) ≡ expr_tokens e =
-        (λ i. expr_tokens (at_left i) ++ (mark (at_sign i) ++ expr_tokens (at_right i))) ∙ sym (append_assoc (expr_tokens a) (mark (sign_of o)) (expr_tokens b)) ∙ sym (at_two e o a b is) in
+    (λ i. expr_tokens (at_left i) ++ (mark (at_sign i) ++ expr_tokens (at_right i))) ∙ sym (append_assoc (expr_tokens a) (mark (sign_of o)) (expr_tokens b)) ∙ sym (at_two e o a b is) in
     subst (λ xs. Puts before xs after) tokens (puts before mid after (expr_tokens left) (mark s ++ expr_tokens right) h k)
 
 -- the tokens of a choice among exits
@@ -75,10 +75,10 @@ choose_put (Err x) e a b first second c before start mid last after is at_first 
 choose_put (Ok done) e a b first second c before start mid last after is at_first at_second h k l m =
     let head = word keyword.If ++ parenthesized (expr_tokens c) in
     let tokens : head ++ exit_tokens first ++ word keyword.Else ++ exit_tokens second ≡ exit_tokens e =
-        (λ i. head ++ exit_tokens (at_first i) ++ word keyword.Else ++ exit_tokens (at_second i)) ∙ sym (at_choose e c a b is) in
+    (λ i. head ++ exit_tokens (at_first i) ++ word keyword.Else ++ exit_tokens (at_second i)) ∙ sym (at_choose e c a b is) in
     subst (λ xs. Puts before xs after) tokens
     (puts before last after (head ++ exit_tokens first ++ word keyword.Else) (exit_tokens second)
-        (puts before mid last (head ++ exit_tokens first) (word keyword.Else) (puts before start mid head (exit_tokens first) h k) l) m)
+    (puts before mid last (head ++ exit_tokens first) (word keyword.Else) (puts before start mid head (exit_tokens first) h k) l) m)
 
 -- a test, a body in braces, and what stands behind it
 pub if_put : {E : Type 0} (r : Result (Unit {0}) E) (s : Stmt) (c : Expr) (yes_part no_part first second : List Stmt) (before start mid after : List ℕ) → s ≡ stmt.If c yes_part no_part → first ≡ yes_part → second ≡ no_part
@@ -88,7 +88,7 @@ if_put (Err x) s c yes_part no_part first second before start mid after is at_fi
 if_put (Ok done) s c yes_part no_part first second before start mid after is at_first at_second h k l =
     let head = word keyword.If ++ parenthesized (expr_tokens c) in
     let tokens : head ++ braced (body_tokens first) ++ else_tokens second ≡ stmt_tokens s =
-        (λ i. head ++ braced (body_tokens (at_first i)) ++ else_tokens (at_second i)) ∙ sym (ap stmt_tokens is ∙ tokens_if c yes_part no_part) in
+    (λ i. head ++ braced (body_tokens (at_first i)) ++ else_tokens (at_second i)) ∙ sym (ap stmt_tokens is ∙ tokens_if c yes_part no_part) in
     subst (λ xs. Puts before xs after) tokens
     (puts before mid after (head ++ braced (body_tokens first)) (else_tokens second) (puts before start mid head (braced (body_tokens first)) h k) l)
 
@@ -98,7 +98,7 @@ pub for_put : {E : Type 0} (r : Result (Unit {0}) E) (s : Stmt) (i : Name) (turn
 for_put (Err x) s i turns at body items word_at before mid after is same h k = tt
 for_put (Ok done) s i turns at body items word_at before mid after is same h k =
     let tokens : head_tokens i turns ++ braced (body_tokens items) ≡ stmt_tokens s =
-        (λ j. head_tokens i turns ++ braced (body_tokens (same j))) ∙ sym (ap stmt_tokens is ∙ tokens_for i turns at body word_at) in
+    (λ j. head_tokens i turns ++ braced (body_tokens (same j))) ∙ sym (ap stmt_tokens is ∙ tokens_for i turns at body word_at) in
     subst (λ xs. Puts before xs after) tokens (puts before mid after (head_tokens i turns) (braced (body_tokens items)) h k)
 
 -- no statements have no `else`
@@ -148,6 +148,7 @@ some_tokens p some = by_front (flat_map decl_tokens p.decls) p.tasks some
     by_tasks : (ts : List Task) → 0 < length ts → (x : Lexeme) × (xs : List Lexeme) × (flat_map task_tokens ts ≡ x ∷ xs)
     by_tasks [] some = absurd (omega arith)
     by_tasks (t ∷ ts) some = (_, _, refl)
+
     by_front : (front : List Lexeme) (ts : List Task) → 0 < length ts → (x : Lexeme) × (xs : List Lexeme) × (front ++ flat_map task_tokens ts ≡ x ∷ xs)
     by_front [] ts some = by_tasks ts some
     by_front (x ∷ front) ts some = (x, _, refl)

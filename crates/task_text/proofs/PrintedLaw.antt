@@ -94,18 +94,17 @@ mutual
   stmt_printable level (stmt.Assign x e) tokens is fair =
       let all = subst AreFair is.4 fair in
       both _ _ (both _ (expr_tokens e) (both (target_tokens x) _ (target_printable x is.2 is.6 (fair_front is.2 _ all)) (tt, tt))
-          (value_printable e is.3 is.7 (fair_front is.3 _ (fair_back is.2 _ all).1))) (tt, tt)
+      (value_printable e is.3 is.7 (fair_front is.3 _ (fair_back is.2 _ all).1))) (tt, tt)
   stmt_printable level (stmt.Point p to) tokens is fair = absurd is
   stmt_printable level (stmt.If' c m yes_row n no_row) tokens is fair =
       let all = (subst AreFair is.4 fair).1 in
       let rest = fair_back is.1 (is.2 ++ is.3) all in
       let first = row_printable (1 + level) yes_row is.7.inner is.7.inside (fair_inside _ _ _ is.2 is.7 (fair_front is.2 is.3 rest)) in
-      let second = else_part (row_tokens no_row) (AreStmts (1 + level) no_row) (row_printable (1 + level) no_row) is.3 is.8 (fair_back is.2 is.3 rest) in
-      (
+      let second = else_part (row_tokens no_row) (AreStmts (1 + level) no_row) (row_printable (1 + level) no_row) is.3 is.8 (fair_back is.2 is.3 rest) in (
         tt,
         both (parenthesized (expr_tokens c) ++ braced (row_tokens yes_row)) (else_row no_row)
-        (both (parenthesized (expr_tokens c)) (braced (row_tokens yes_row)) (between_printable sign.ParenOpen sign.ParenClose c is.1 is.6 (fair_front is.1 (is.2 ++ is.3) all)) (wrapped sign.BraceOpen sign.BraceClose (row_tokens yes_row) first))
-        (else_printable no_row second),
+            (both (parenthesized (expr_tokens c)) (braced (row_tokens yes_row)) (between_printable sign.ParenOpen sign.ParenClose c is.1 is.6 (fair_front is.1 (is.2 ++ is.3) all)) (wrapped sign.BraceOpen sign.BraceClose (row_tokens yes_row) first))
+            (else_printable no_row second),
       )
   stmt_printable level (stmt.For' i turns at m row word) tokens is fair =
       let all = subst AreFair is.2 fair in
@@ -132,9 +131,11 @@ exit_printable level (exit.Choose' c u (more_of-Exit a end_of-Exit) v (more_of-E
     let rest = fair_back is.2 _ all in
     let test = between_printable sign.ParenOpen sign.ParenClose c is.2 is.7 (fair_front is.2 _ all) in
     let first = exit_printable (1 + level) a is.3 is.8 (fair_front is.3 _ rest) in
-    let second = exit_printable (1 + level) b is.4 is.9 (fair_back is.3 _ rest).1 in
-    (tt, both (parenthesized (expr_tokens c) ++ exit_tokens a ++ word_else) (exit_tokens b)
-      (both (parenthesized (expr_tokens c) ++ exit_tokens a) word_else (both (parenthesized (expr_tokens c)) (exit_tokens a) test first) (tt, tt)) second)
+    let second = exit_printable (1 + level) b is.4 is.9 (fair_back is.3 _ rest).1 in (
+      tt,
+      both (parenthesized (expr_tokens c) ++ exit_tokens a ++ word_else) (exit_tokens b)
+          (both (parenthesized (expr_tokens c) ++ exit_tokens a) word_else (both (parenthesized (expr_tokens c)) (exit_tokens a) test first) (tt, tt)) second,
+    )
 
 -- items, one after another
 all_printable : {T : Type 0} (P : T → List Token → Type 0) (f : T → List Lexeme) → ((x : T) (tokens : List Token) → P x tokens → AreFair tokens → ArePrintable (f x))
@@ -166,6 +167,7 @@ init_printable (n ∷ []) tokens is fair = (tt, (by_form is.3, tt))
   where
     behind : AreFair is.1
     behind = (subst AreFair is.2 fair).1
+
     by_form : (◌≡◌ {A = List ℕ} [] [] × IsNumber n is.1) ⊎ IsBraced (AreValues n []) is.1 → IsWord n
     by_form (inl one) = (subst AreFair one.1.1 behind).0
     by_form (inr braces) = (subst AreFair braces.inside.2 (fair_inside _ _ _ is.1 braces behind)).0
@@ -173,6 +175,7 @@ init_printable (n ∷ m ∷ ns) tokens is fair = (tt, wrapped sign.BraceOpen sig
   where
     behind : AreFair is.1
     behind = (subst AreFair is.2 fair).1
+
     by_form : ((m ∷ ns ≡ []) × IsNumber n is.1) ⊎ IsBraced (AreValues n (m ∷ ns)) is.1 → ArePrintable (numbered n ++ flat_map next_tokens (m ∷ ns))
     by_form (inl one) = absurd (let e = ap length one.0 in omega (arith, e))
     by_form (inr braces) = values_printable n m ns braces.inner braces.inside (fair_inside _ _ _ is.1 braces behind)

@@ -103,9 +103,8 @@ decl_again (decl.Words k x size values) old tokens was is =
     let y : Name = record { text = x.text; at = at_name.0 } in
     let front : c.front ≡ (e.front ++ reserved keyword.Word first.0 ∷ []) ++ name y ∷ [] = d.whole ∙ (λ i. (e.whole ∙ ap (λ ts. e.front ++ ts) first.1) i ++ at_name.1 i) in
     let whole : tokens ≡ e.front ++ reserved keyword.Word first.0 ∷ name y ∷ (c.back ++ (b.back ++ symbol sign.Semicolon last.0 ∷ [])) =
-        a.whole ∙ (λ i. (b.whole ∙ (λ j. (c.whole ∙ (λ k. front k ++ c.back)) j ++ b.back)) i ++ last.1 i)
-        ∙ declared e.front (reserved keyword.Word first.0) (name y) c.back b.back (symbol sign.Semicolon last.0) in
-    (
+    a.whole ∙ (λ i. (b.whole ∙ (λ j. (c.whole ∙ (λ k. front k ++ c.back)) j ++ b.back)) i ++ last.1 i)
+    ∙ declared e.front (reserved keyword.Word first.0) (name y) c.back b.back (symbol sign.Semicolon last.0) in (
       decl.Words k y size values,
       (first.0, last.0, e.front, c.back, b.back, whole, kind_again k e.front e.firsts, size_again size c.back c.others, init_again values b.back b.others),
       refl,
@@ -126,8 +125,7 @@ task_again t old tokens was is =
     let d = parts_of c.inner (body_tokens t.body) (exit_tokens t.exit) c.inside in
     let body = all_again (IsStmt 1) bare_stmt stmt_tokens stmt_item t.body was.body d.front was.stmts d.firsts in
     let ending = exit_again t.exit 1 was.ending d.back was.exit d.others in
-    let x : Name = record { text = t.name.text; at = b.at } in
-    (
+    let x : Name = record { text = t.name.text; at = b.at } in (
       record { name = x; body = body.trees; exit = ending.tree; close = c.at_last },
       record {
         at_task = a.at;
@@ -135,7 +133,7 @@ task_again t old tokens was is =
         body = d.front;
         ending = d.back;
         whole = a.whole ∙ ap (λ ts. reserved keyword.Task a.at ∷ ts) (b.whole ∙ ap (λ ts. name x ∷ ts) (c.whole
-                ∙ ap (λ ts. symbol sign.BraceOpen c.at_first ∷ ts) (ap (λ ts. ts ++ symbol sign.BraceClose c.at_last ∷ []) d.whole ∙ append_assoc d.front d.back (symbol sign.BraceClose c.at_last ∷ []))));
+            ∙ ap (λ ts. symbol sign.BraceOpen c.at_first ∷ ts) (ap (λ ts. ts ++ symbol sign.BraceClose c.at_last ∷ []) d.whole ∙ append_assoc d.front d.back (symbol sign.BraceClose c.at_last ∷ []))));
         stmts = body.are;
         exit = ending.is;
       },
@@ -147,8 +145,7 @@ pub program_again : (p : Program) (old tokens : List Token) → IsProgram p old 
 program_again p old tokens was is =
     let a = parts_of tokens (flat_map decl_tokens p.decls) (flat_map task_tokens p.tasks) is in
     let decls = all_again IsDecl bare_decl decl_tokens decl_again p.decls was.front a.front was.decls a.firsts in
-    let tasks = all_again IsTask bare_task task_tokens task_again p.tasks was.back a.back was.tasks a.others in
-    (
+    let tasks = all_again IsTask bare_task task_tokens task_again p.tasks was.back a.back was.tasks a.others in (
       record { decls = decls.trees; tasks = tasks.trees },
       record {
         front = a.front;

@@ -71,7 +71,7 @@ choice_of c first second tokens is =
       left = e.back;
       right = b.back;
       whole = a.whole ∙ ap (λ ts. reserved keyword.If a.at ∷ ts) (b.whole ∙ (λ i. (d.whole ∙ (λ j. e.whole j ++ f.1 j)) i ++ b.back)
-              ∙ regroup e.front e.back (reserved keyword.Else f.0) b.back);
+          ∙ regroup e.front e.back (reserved keyword.Else f.0) b.back);
       at_test = e.firsts;
       at_left = e.others;
       at_right = b.others;
@@ -201,8 +201,7 @@ for_again : (i : Name) (turns : ℕ) (bare : List Stmt) (level : ℕ) (tokens he
     → (b : BracedAgain bare (1 + level) block) → (tree : Stmt) × IsStmt level tree tokens × (bare_stmt tree ≡ stmt.For (bare_name i) turns somewhere bare somewhere)
 for_again i turns bare level tokens head block whole low h b =
     let x : Name = record { text = i.text; at = h.first } in
-    let made : IsLoop level x turns h.at b.trees h.word_at tokens = (head, block, whole, low, h.is, b.are) in
-    (
+    let made : IsLoop level x turns h.at b.trees h.word_at tokens = (head, block, whole, low, h.is, b.are) in (
       stmt.For x turns h.at b.trees h.word_at,
       subst (λ T. T) (sym (stmt_loop level x turns h.at b.trees h.word_at tokens)) made,
       bare_for x turns h.at b.trees h.word_at ∙ (λ j. stmt.For (bare_name i) turns somewhere (b.same j) somewhere),

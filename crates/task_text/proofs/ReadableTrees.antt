@@ -103,16 +103,14 @@ mutual
       let test = between_fits _ _ c is.1 is.6 (fair_front is.1 (is.2 ++ is.3) all) in
       let rest = fair_back is.1 (is.2 ++ is.3) all in
       let first = row_fits (1 + level) yes_row is.7.inner is.7.inside (fair_inside _ _ _ is.2 is.7 (fair_front is.2 is.3 rest)) in
-      let second = else_fits (row_size no_row) (AreReadableStmts (1 + level) no_row) (AreStmts (1 + level) no_row) (row_fits (1 + level) no_row) is.3 is.8 (fair_back is.2 is.3 rest) in
-      (
+      let second = else_fits (row_size no_row) (AreReadableStmts (1 + level) no_row) (AreStmts (1 + level) no_row) (row_fits (1 + level) no_row) is.3 is.8 (fair_back is.2 is.3 rest) in (
         (is.5, test.0, first.0, second.0),
         omega (arith, test.1, first.1, second.1, ap length is.4, length-append is.1 (is.2 ++ is.3), length-append is.2 is.3, inside_shorter _ _ _ is.2 is.7),
       )
   stmt_fits level (stmt.For' i turns at m row word) tokens is fair =
       let all = subst AreFair is.2 fair in
       let head = subst AreFair is.4.whole (fair_front is.0 is.1 all) in
-      let body = row_fits (1 + level) row is.5.inner is.5.inside (fair_inside _ _ _ is.1 is.5 (fair_back is.0 is.1 all)) in
-      (
+      let body = row_fits (1 + level) row is.5.inner is.5.inside (fair_inside _ _ _ is.1 is.5 (fair_back is.0 is.1 all)) in (
         (is.3, head.1.1.1.1.1.1.1.1.0, body.0),
         omega (arith, body.1, ap length is.2, length-append is.0 is.1, inside_shorter _ _ _ is.1 is.5),
       )
@@ -166,6 +164,7 @@ init_fits (n ∷ ns) tokens is fair = by_form is.3
   where
     behind : AreFair is.1
     behind = (subst AreFair is.2 fair).1
+
     by_form : ((ns ≡ []) × IsNumber n is.1) ⊎ IsBraced (AreValues n ns) is.1 → Fits (length (n ∷ ns)) (AllByRecursion IsWord (n ∷ ns)) tokens
     by_form (inl one) =
         (((subst AreFair one.1.1 behind).0, subst (AllByRecursion IsWord) (sym one.0) tt), omega (arith, ap length one.0, ap length is.2, ap length one.1.1))
@@ -179,8 +178,7 @@ decl_fits (decl.Words k x n values) tokens is fair =
     let all = subst AreFair is.5 fair in
     let behind = (fair_back is.2 _ all).1 in
     let rest = fair_back is.3 (is.4 ++ _ ∷ []) behind.1 in
-    let init = init_fits values is.4 is.8 (fair_front is.4 _ rest) in
-    (
+    let init = init_fits values is.4 is.8 (fair_front is.4 _ rest) in (
       (behind.0, size_fits n is.3 is.7 (fair_front is.3 (is.4 ++ _ ∷ []) behind.1), init.0),
       omega (arith, init.1, ap length is.5, length-append is.2 (reserved keyword.Word is.0 ∷ name x ∷ (is.3 ++ (is.4 ++ symbol sign.Semicolon is.1 ∷ []))), length-append is.3 (is.4 ++ symbol sign.Semicolon is.1 ∷ []), length-append is.4 (symbol sign.Semicolon is.1 ∷ [])),
     )
@@ -192,8 +190,7 @@ task_fits t tokens is fair =
     let all = subst AreFair is.whole fair in
     let inner = all.1.1.1 in
     let body = all_fit (IsStmt 1) (IsReadableStmt 1) stmt_size (stmt_fits 1) t.body is.body is.stmts (fair_front is.body _ inner) in
-    let ending = exit_fits 1 t.exit is.ending is.exit (fair_front is.ending _ (fair_back is.body _ inner)) in
-    (
+    let ending = exit_fits 1 t.exit is.ending is.exit (fair_front is.ending _ (fair_back is.body _ inner)) in (
       record { name = all.1.0; body = body.0; exit = ending.0 },
       omega (arith, body.1, ending.1, ap length is.whole, length-append is.body (is.ending ++ symbol sign.BraceClose t.close ∷ []), length-append is.ending (symbol sign.BraceClose t.close ∷ [])),
     )
