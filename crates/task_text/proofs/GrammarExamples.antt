@@ -1,5 +1,6 @@
 -- The grammar, computed on small expressions, declarations, statements and exits.
-use Rattle.std.proofs.Common.{◌≤◌, ℕ, List, [], ◌∷◌, ◌++◌, Some, codes, refl, sym, subst, arith, inl, inr}
+use Rattle.std.proofs.Common.{◌≤◌, ℕ, List, [], ◌∷◌, ◌++◌, Some, codes, refl, sym, subst, arith, inl, inr, ap, drop}
+use Rattle.std.proofs.lemmas.Bool.{false≢true}
 use Rattle.ease_base.specs.declared.place.Pos.{Pos}
 use Rattle.task_ast.specs.declared.tree.Op1.TheVariants as op1
 use Rattle.task_ast.specs.declared.tree.Op2.TheVariants as op
@@ -20,6 +21,7 @@ use Rattle.task_text.specs.declared.token.Sign.{Sign}
 use Rattle.task_text.specs.declared.token.Sign.TheVariants as sign
 use Rattle.task_text.specs.declared.token.Token.{Token}
 use Rattle.task_text.specs.Grammar.{reserved, symbol, number, name, IsBetween, IsExpr, IsValue, IsNumber, IsDecl, IsHead, IsStmt, IsExit}
+use Rattle.task_text.specs.Reading.{begins_same}
 use Rattle.task_text.specs.GrammarRows.{stmt_if, stmt_loop}
 
 abbrev p : Pos
@@ -92,3 +94,14 @@ pub a_chosen_exit : IsExit 16 (exit.Choose (num 1) exit.Stop exit.Stop) (reserve
 unfolding hidden-the_row-Exit-0 shape-the_row-Exit-0 hidden
 a_chosen_exit =
     (p, p, s sign.ParenOpen ∷ number 1 p ∷ s sign.ParenClose ∷ [], reserved keyword.Stop p ∷ s sign.Semicolon ∷ [], reserved keyword.Stop p ∷ s sign.Semicolon ∷ [], refl, omega arith, between sign.ParenOpen sign.ParenClose (IsValue (num 1)) (number 1 p ∷ []) one_value, (p, p, refl), (p, p, refl))
+
+-- `for ( x = 0 ; y < 3 ; x ++ )` is no head of a loop
+pub two_names_are_no_head :
+    IsHead x 3 p p
+    (reserved keyword.For p ∷ s sign.ParenOpen ∷ name x ∷ s sign.Equal ∷ number 0 p ∷ s sign.Semicolon ∷ name (record { text = codes "y"; at = p }) ∷ s sign.Less ∷ number 3 p ∷ s sign.Semicolon ∷ name x ∷ s sign.PlusPlus ∷ s sign.ParenClose ∷ [])
+    → ⊥
+two_names_are_no_head h = false≢true (ap (λ ts. begins_same (codes "x") (drop 6 ts)) h.whole)
+
+-- an `if` at nesting 17 is no statement
+pub nothing_nests_17_deep : (c : Expr) (tokens : List Token) → IsStmt 17 (stmt.If c [] []) tokens → ⊥
+nothing_nests_17_deep c tokens h = let low = h.5 in omega (arith, low)

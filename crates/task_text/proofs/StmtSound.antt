@@ -285,7 +285,7 @@ if-cases : (level : ℕ) (item : List Token → Outcome Stmt) → IsSound (IsStm
 if-cases level item each low ts us s h (inl held) = if-sound level item each low ts us s (sym (cond-true (begins_reserved keyword.If ts) (if_of item ts) _ held) ∙ h)
 if-cases level item each low ts us s h (inr failed) = for-cases level item each low ts us s (sym (cond-false (begins_reserved keyword.If ts) (if_of item ts) _ failed) ∙ h) (cases_Bool (begins_reserved keyword.For ts))
 
--- a statement in which so many braces may be nested stands at the nesting that is left
+-- a statement where so many levels of nesting are left stands at the nesting that goes with them
 pub stmt-sound : (n level : ℕ) → level + n ≡ suc most_nested → IsSound (IsStmt level) (stmt_at n)
 unfolding stmt_at
 stmt-sound zero level room ts us s h = absurd (not_found s us ts h)

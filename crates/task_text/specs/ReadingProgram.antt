@@ -49,7 +49,7 @@ chosen_of inner c ts = do
 unfoldable pub choose_of : (List Token → Outcome Exit) → List Token → Outcome Exit
 choose_of inner ts = test_at ts >>= λ c. chosen_of inner c.value.expr c.rest
 
--- an exit in which so many `if`s may be nested
+-- an exit, on whose paths so many `if`s may stand
 unfoldable pub exit_at : ℕ → List Token → Outcome Exit
 exit_at zero ts = leave_at ts
 exit_at (suc n) ts = if begins_reserved keyword.If ts then choose_of (exit_at n) ts else leave_at ts

@@ -97,7 +97,7 @@ for_of item ts = do
   body ← block_of item h.rest
   found (stmt.For h.value.variable h.value.turns.value h.value.turns.at body.value h.value.word) body.rest
 
--- a statement in which so many braces may be nested, itself counted
+-- a statement where so many levels of nesting are left, its own among them
 unfoldable pub stmt_at : ℕ → List Token → Outcome Stmt
 stmt_at zero ts = Err ts
 stmt_at (suc n) ts = if begins_reserved keyword.If ts then if_of (stmt_at n) ts else (if begins_reserved keyword.For ts then for_of (stmt_at n) ts else assign_at ts)

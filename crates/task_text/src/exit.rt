@@ -44,7 +44,7 @@ impl Cursor<'_> {
         self.stop()
     }
 
-    /// Takes the two exits of an `if`, behind its condition; in each so many `if`s may be nested.
+    /// Takes the two exits of an `if`, behind its condition; so many `if`s may still stand on a path.
     #[cycle(exit)]
     #[tactic(auto, unfolding(crate::specs::ReadingProgram::chosen_of))]
     pub fn chosen(&mut self, alloc: Global, ifs: u32, condition: Expr) -> Result<Exit, ReadError>
@@ -68,7 +68,7 @@ impl Cursor<'_> {
         self.chosen(alloc, ifs, condition.expr)
     }
 
-    /// Takes an exit in which so many `if`s may be nested.
+    /// Takes an exit, on whose paths so many `if`s may stand.
     #[cycle(exit)]
     #[tactic(auto, unfolding(crate::specs::ReadingProgram::exit_at))]
     fn exit(&mut self, alloc: Global, ifs: u32) -> Result<Exit, ReadError>

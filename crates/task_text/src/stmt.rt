@@ -73,7 +73,7 @@ impl Cursor<'_> {
         self.enclosed_value(alloc, Sign::ParenOpen, Sign::ParenClose)
     }
 
-    /// Takes statements up to what is none; in each so many braces may be nested, itself counted.
+    /// Takes statements up to what is none, where so many levels of nesting are left, their own among them.
     #[cycle(stmt)]
     fn stmts(&mut self, alloc: Global, nesting: u32) -> Result<List<Stmt>, ReadError>
         requires { nesting ≤ 16 }
@@ -160,7 +160,7 @@ impl Cursor<'_> {
         ))
     }
 
-    /// Takes a statement in which so many braces may be nested, itself counted.
+    /// Takes a statement where so many levels of nesting are left, its own among them.
     #[cycle(stmt)]
     #[tactic(auto, unfolding(crate::specs::ReadingStmt::stmt_at))]
     pub fn stmt(&mut self, alloc: Global, nesting: u32) -> Result<Stmt, ReadError>
