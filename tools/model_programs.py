@@ -3,6 +3,7 @@
 from __future__ import annotations
 
 import random
+from collections.abc import Iterator
 from typing import NamedTuple
 
 SIGNS = "{ } ( ) [ ] ; , = & | ^ ~ ! + - * / % < > == != <= >= << >> && || ++".split()
@@ -306,3 +307,23 @@ def random_source(rng: random.Random) -> bytes:
         tokens = changed_tokens(rng, tokens)
     source = text(rng, tokens)
     return changed_bytes(rng, source) if 0.70 <= kind < 0.85 else source
+
+
+# Tables of operators
+
+
+def table(exprs: list[str]) -> bytes:
+    """One task that puts each value into its own word."""
+    lines = [f"r[{place}] = {expr};" for place, expr in enumerate(exprs)]
+    return "\n".join([f"nv word r[{len(exprs)}];", "task t {", *lines, "STOP; }"]).encode()
+
+
+def operator_tables() -> Iterator[tuple[str, bytes]]:
+    """Each operator on each two edges, and each two operators in a row, so that the tighter one shows."""
+    for sign in BINARY:
+        pairs = [(left, right) for left in EDGES for right in EDGES if right or sign not in "/%"]
+        yield f"the operator {sign}", table([f"{left} {sign} {right}" for left, right in pairs])
+    yield "the prefixes", table([f"{first}{second} {edge}" for first in "!~-" for second in "!~-" for edge in EDGES])
+    for a, b, c in [(7, 3, 2), (1, 2, 4), (2**32 - 1, 31, 1), (0, 5, 5)]:
+        rows = [f"{a} {first} {b} {second} {c}" for first in BINARY for second in BINARY]
+        yield f"two operators on {a}, {b} and {c}", table(rows)
