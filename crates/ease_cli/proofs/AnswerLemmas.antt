@@ -1,7 +1,6 @@
 -- From what is said of a tree to what is said of its source, and on to what the command line says.
-use Rattle.std.proofs.Common.{◌≡◌, ℕ, ◌≤◌, Bool, List, Option, Some, Result, Ok, Err, IfOk, sym, subst, ◌∙◌, ap}
+use Rattle.std.proofs.Common.{◌≡◌, ℕ, List, Option, Result, Ok, Err, IfOk, sym, subst, ◌∙◌}
 use Rattle.std.proofs.lemmas.Result.{IfOk-weaker}
-use Rattle.ease_base.specs.Cabinet.{Contents}
 use Rattle.ease_base.specs.Sink.{extended}
 use Rattle.task_ast.specs.declared.tree.Program.{Program}
 use Rattle.task_text.specs.declared.error.TextError.{TextError}
@@ -9,7 +8,7 @@ use Rattle.task_check.specs.Faults.{Accepted}
 use Rattle.task_text.specs.Reads.{Reads, Refuses}
 use Rattle.ease_cli.specs.declared.status.Status.{Status}
 use Rattle.ease_cli.specs.declared.status.Status.TheVariants as status
-use Rattle.ease_cli.specs.Answer.{ProgramSays, SourceSays, Says, Files, NoneWasLong, run_status, IsRun, Writes, IsAccepted, ProgramSettles, SourceSettles, Settles, IsSource, IsWalkText, IsSourceLine, unread, unaccepted, OfSource}
+use Rattle.ease_cli.specs.Answer.{ProgramSays, SourceSays, Says, Files, NoneWasLong, run_status, IsRun, Writes, IsAccepted, ProgramSettles, SourceSettles, Settles, IsSource, unread, unaccepted}
 use Rattle.walk_run.specs.declared.walked.WalkEnd.{WalkEnd}
 use Rattle.walk_run.specs.declared.walked.WalkEnd.TheVariants as ends
 use Rattle.ease_cli.specs.Lines.{text_line}

@@ -1,5 +1,5 @@
 -- The words of a command line, each a text of bytes.
-use Rattle.std.specs.Prelude.{◌≡◌, ◌==◌, ℕ, ◌≤◌, Bool, false, List, [], ◌∷◌, codes, length}
+use Rattle.std.specs.Prelude.{◌≡◌, ◌==◌, ℕ, ◌≤◌, Bool, false, List, [], ◌∷◌, codes}
 use Rattle.std.specs.Fmt.{decimal}
 
 -- a word that begins with `-` and is longer than that

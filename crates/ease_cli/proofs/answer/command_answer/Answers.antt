@@ -1,4 +1,4 @@
-use Rattle.std.proofs.Common.{◌≤◌, length, map, string_bytes, arith, rules, sym}
+use Rattle.std.proofs.Common.{◌≤◌, length, map, string_bytes, arith}
 use Rattle.std.proofs.lemmas.Result.{IfOk-weaker}
 use Rattle.ease_cli.specs.Answer.{Says, SourceSays, IsSource, files_of}
 use Rattle.ease_cli.proofs.AnswerLemmas.{says-from_source}

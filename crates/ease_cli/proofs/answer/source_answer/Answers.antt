@@ -1,4 +1,4 @@
-use Rattle.std.proofs.Common.{◌≡◌, Ok, sym}
+use Rattle.std.proofs.Common.{◌≡◌, Ok}
 use Rattle.std.proofs.lemmas.Result.{IfOk-weaker}
 use Rattle.task_text.specs.declared.error.TextError.TheVariants.{Syntax, NumberTooWide}
 use Rattle.ease_cli.specs.Answer.{ProgramSays, SourceSays, ProgramSettles, SourceSettles}

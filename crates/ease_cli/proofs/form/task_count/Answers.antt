@@ -1,4 +1,4 @@
-use Rattle.std.proofs.Common.{◌≡◌, ◌<◌, ◌^◌, Ok, true, take, decimal, arith, sym, ap, ◌∙◌}
+use Rattle.std.proofs.Common.{◌≡◌, Ok, decimal, arith, sym, ap, ◌∙◌}
 use Rattle.std.proofs.lemmas.Fmt.{parse-decimal}
 use Rattle.ease_cli.proofs.FormLemmas.{other-text}
 use Rattle.ease_cli.proofs.form.task_count.Goals as goal
