@@ -1,6 +1,6 @@
 -- Names are ASCII, and the tests on names say what they say.
 use Rattle.std.specs.Prelude.{◌≡◌, ◌↔◌, ℕ, zero, suc, ◌<◌, Bool, true, false, not, ◌&&◌, nat_le, IsTrue, List, [], ◌∷◌, Option, Some, None, All, length, refl}
-use Rattle.std.proofs.Common.{sym, ◌∙◌, subst, arith, get_or}
+use Rattle.std.proofs.Common.{sym, ap, ◌∙◌, subst, arith, get_or}
 use Rattle.std.proofs.lemmas.List.Sums.{AllPass-from_list_all}
 use Rattle.std.proofs.lemmas.Bool.{leb-true, le-leb}
 use Rattle.std.proofs.lemmas.Bool.Decides.{nat_tests, same_from_decides}
@@ -14,7 +14,8 @@ use Rattle.std.specs.Str.{IsUtf8, bytes_eq}
 use Rattle.op_table.specs.Places.{place_of}
 use Rattle.op_table.specs.PlaceLemmas.{place_found, placed}
 use Rattle.op_table.specs.Reserved.{IsReserved, reserved_words}
-use Rattle.word_isa.specs.Names.{is_letter, is_word_byte, is_name_token, is_reserved, is_symbol_name, IsSymbolName}
+use Rattle.task_ast.specs.NameToken.{is_letter, is_word_byte}
+use Rattle.word_isa.specs.Names.{is_name_token, is_reserved, is_symbol_name, IsSymbolName}
 
 both_true : (p q : Bool) → (p && q) ≡ true → (p ≡ true) × (q ≡ true)
 both_true true q e = (refl, e)
@@ -72,11 +73,17 @@ all_true p q r p_true q_true r_true = rw (p_true, q_true, r_true) refl
 
 -- the test for a name is exact
 pub symbol_name_exact : (r : Bool) (name : List ℕ) → r ≡ is_symbol_name name → IsTrue r ↔ IsSymbolName name
-unfolding is_symbol_name
+unfolding is_symbol_name is_name_token
 symbol_name_exact r name is = (
   λ passes.
       let three = both_true (is_name_token name && nat_le (length name) 32) (not (is_reserved name)) (sym is ∙ passes) in
       let two = both_true (is_name_token name) (nat_le (length name) 32) three.0 in
-      record { is_name = two.0; short = leb-true (length name) 32 two.1; free = λ stands. not_true (is_reserved name) three.1 ((reserved-Decides name).1 stands) },
-  λ fact. is ∙ all_true (is_name_token name) (nat_le (length name) 32) (not (is_reserved name)) fact.is_name (le-leb (length name) 32 fact.short) (is_not (is_reserved name) (λ some. fact.free ((reserved-Decides name).0 some))),
+      record { token = (two.0, λ stands. not_true (is_reserved name) three.1 ((reserved-Decides name).1 stands)); short = leb-true (length name) 32 two.1 },
+  λ fact. is ∙ all_true (is_name_token name) (nat_le (length name) 32) (not (is_reserved name)) fact.token.0 (le-leb (length name) 32 fact.short) (is_not (is_reserved name) (λ some. fact.token.1 ((reserved-Decides name).0 some))),
 )
+
+-- where the tests on letters and length pass, the last one tells
+pub named_by : (r : Bool) (name : List ℕ) → is_name_token name ≡ true → nat_le (length name) 32 ≡ true → r ≡ not (is_reserved name) → r ≡ is_symbol_name name
+unfolding is_symbol_name
+named_by r name letters short is =
+    is ∙ sym (ap (λ a. a && nat_le (length name) 32 && not (is_reserved name)) letters ∙ ap (λ a. a && not (is_reserved name)) short)

@@ -1,6 +1,7 @@
 //! Which bytes may name a symbol or a peripheral.
-ghost use Rattle.std.specs.Prelude.{◌≡◌, ◌↔◌, IsTrue, not};
+ghost use Rattle.std.specs.Prelude.{◌≡◌, ◌↔◌, IsTrue, not, nat_le, length};
 ghost use Rattle.std.specs.List.{list_all};
+ghost use Rattle.task_ast.specs.NameToken as language;
 ghost use Rattle.word_isa.specs.Names as spec;
 
 use op_table::reserved;
@@ -16,10 +17,16 @@ pub fn is_symbol_name(name: &[u8]) -> bool
     if !is_name_token(name) {
         return false;
     }
-    if name.len() > 32 {
+    if !is_short(name) {
         return false;
     }
     is_free(name)
+}
+
+fn is_short(name: &[u8]) -> bool
+    ensures { result ≡ nat_le (length name.now) 32 }
+{
+    name.len() <= 32
 }
 
 // Whether a name is no reserved word.
@@ -45,19 +52,19 @@ fn is_name_token(name: &[u8]) -> bool
 }
 
 fn are_word_bytes(bytes: &[u8]) -> bool
-    ensures { result ≡ list_all spec.is_word_byte bytes.now }
+    ensures { result ≡ list_all language.is_word_byte bytes.now }
 {
     bytes.iter().all(|b| is_word_byte(*b))
 }
 
 fn is_letter(b: u8) -> bool
-    ensures { result ≡ spec.is_letter b }
+    ensures { result ≡ language.is_letter b }
 {
     b.is_ascii_alphabetic() || b == b'_'
 }
 
 fn is_word_byte(b: u8) -> bool
-    ensures { result ≡ spec.is_word_byte b }
+    ensures { result ≡ language.is_word_byte b }
 {
     b.is_ascii_alphanumeric() || b == b'_'
 }
