@@ -3,6 +3,8 @@
 
 mod answer;
 mod form;
+#[cfg(test)]
+mod limit_tests;
 mod lines;
 #[cfg(test)]
 mod refusal_tests;

@@ -32,8 +32,18 @@ fn calls(alloc: Global, numbers: &[u32]) -> Result<Words, NoMemory> {
 
 // Runs `ease` on a cabinet with the one file `p`, and a sink with room for so many bytes.
 pub fn run(alloc: Global, line: &[&str], source: &str, room: usize) -> Result<Ran, NoMemory> {
+    run_bytes(alloc, line, source.as_bytes(), room)
+}
+
+// The same of a source that is bytes.
+pub fn run_bytes(
+    alloc: Global,
+    line: &[&str],
+    source: &[u8],
+    room: usize,
+) -> Result<Ran, NoMemory> {
     let mut files = MemCabinet::make(alloc, Words::new(alloc));
-    files.put("p", source.as_bytes())?;
+    files.put("p", source)?;
     let mut out = MemSink::make(alloc, room, Words::new(alloc))?;
     let words = words(alloc, line)?;
     let status = ease(alloc, words.as_slice(), &mut files, &mut out);

@@ -1,5 +1,5 @@
 //! Texts that are programs, texts that are none, and the refusal of each.
-use crate::{TextError, read_program};
+use crate::{TextError, print_program, read_program};
 use ease_base::Pos;
 use std::alloc::Global;
 use std::process::Abort;
