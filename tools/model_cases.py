@@ -12,13 +12,14 @@ class Case(NamedTuple):
     tasks: int
     status: int
     output: bytes
+    readings: list[int] = []
 
 
-def case(name: str, source: str, output: str, tasks: int = 5) -> Case:
+def case(name: str, source: str, output: str, tasks: int = 5, readings: tuple[int, ...] = ()) -> Case:
     """An output without a line feed behind it is the front of a refusal whose place isn't fixed."""
     first_word = output.split()[0]
     status = {"source": 2, "too": 7}.get(first_word, 9 if "end trapped" in output else 0)
-    return Case(name, source.encode("latin-1"), tasks, status, output.encode())
+    return Case(name, source.encode("latin-1"), tasks, status, output.encode(), list(readings))
 
 
 NO_TREE = "source syntax at "
@@ -91,9 +92,11 @@ def trees() -> Iterator[Case]:
         ("an empty list", "word a[1] = {}; task t { STOP; }"), ("a task without exit", "word x; task t { x = 1; }"),
         ("an exit before a statement", "word x; task t { STOP; x = 1; }"), ("an exit in braces", "task t { if (1) { STOP; } else STOP; }"),
         ("an exit without else", "task t { if (1) STOP; }"), ("else if", "task t { if (1) { } else if (0) { } STOP; }"),
-        ("a pointer", "word *p; task t { STOP; }"), ("a peripheral", "peripheral p 0; task t { STOP; }"),
-        ("an address", "word x; task t { x = &x; STOP; }"), ("a reading", "word x; task t { x = IO(p, SINGLE); STOP; }"),
-        ("a block", "task t { IO_BLOCK(ALWAYS) { } STOP; }"), ("a copy", "word x; task t { DMA(x, x, 1); STOP; }"),
+        ("an address of an indexed target", "word *p; word a[1]; task t { p[0] = &a[0]; STOP; }"),
+        ("a nonvolatile pointer", "nv word *p; task t { STOP; }"), ("an address in a sum", "word x; word *p; task t { p = 1 + &x; STOP; }"),
+        ("a peripheral without number", "peripheral p; task t { STOP; }"), ("a call without annotation", "task t { IO(p); STOP; }"),
+        ("a call in a sum", "word x; task t { x = 1 + IO(p, SINGLE); STOP; }"), ("a block of TIMELY alone", "task t { IO_BLOCK(TIMELY) { } STOP; }"),
+        ("a copy of two ends", "word a[1]; task t { DMA(a, a); STOP; }"), ("a copy to an element", "word a[1]; task t { DMA(a[0], a, 1); STOP; }"),
         ("a reserved name", "word DMA; task t { STOP; }"), ("a loop from 1", task("for (i = 1; i < 2; i++) { }", "word i;")),
         ("a loop of two names", task("for (i = 0; i < 2; j++) { }", "word i; word j;")),
     ]:  # fmt: skip
@@ -126,6 +129,37 @@ def faults() -> Iterator[Case]:
         yield refused(f"more values than words: {name}", "", f"{place} too-many", decl)
 
 
+    yield from site_faults()
+
+
+def site_faults() -> Iterator[Case]:
+    decls = "nv word n; const nv word k[2]; word i; word a[2]; word *p; word *q; peripheral r 0;"
+    for name, body, line in [
+        ("a scalar that points", "n = &a[0];", "3:1 wrong-kind"), ("an array's address", "p = &a;", "3:6 wrong-kind"),
+        ("a scalar's element", "p = &n[0];", "3:6 wrong-kind"), ("a pointer's address", "p = &q;", "3:6 wrong-kind"),
+        ("a pointer that is read", "n = p;", "3:5 wrong-kind"), ("a pointer that is assigned", "p = 1;", "3:1 wrong-kind"),
+        ("a scalar as a copy's end", "DMA(n, a, 1);", "3:5 wrong-kind"), ("a peripheral that is indexed", "n = r[0];", "3:5 wrong-kind"),
+        ("an array as peripheral", "n = IO(a, ALWAYS);", "3:8 wrong-kind"), ("five arguments", "n = IO(r, ALWAYS, 1, 2, 3, 4, 5);", "3:5 too-many"),
+        ("five arguments and no target", "IO(r, ALWAYS, 1, 2, 3, 4, u);", "3:1 too-many"),
+        ("a copy to a constant", "DMA(k, a, 1);", "3:5 const-written"), ("a reading to a constant", "k[0] = IO(r, SINGLE);", "3:1 const-written"),
+        ("a copy to where a constant may be", "DMA(p, a, 1); p = &k[0];", "3:5 const-written"),
+        ("an index to where a constant may be", "p[0] = 1; q = &a[0]; p = &k[1];", "3:1 const-written"),
+        ("a copy from a constant", "DMA(a, k, u);", "3:11 unknown-name"),
+        ("a copy under an if", "if (1) { IO_BLOCK(SINGLE) { DMA(a, a, 1); } }", "3:29 dma-under-if"),
+        ("a copy of another kind under an if", "if (1) { DMA(n, a, 1); }", "3:10 dma-under-if"),
+        ("a reading to a loop's variable", "for (i = 0; i < 2; i++) { i = IO(r, SINGLE); }", "3:27 wrong-kind"),
+        ("a pointer to a loop's variable", "p = &i; for (i = 0; i < 2; i++) { p[0] = 1; }", "3:35 wrong-kind"),
+        ("65 turns with a call", "for (i = 0; i < 65; i++) { IO(r, SINGLE); }", "3:17 limit turns 65"),
+        ("65 turns with an empty block", "for (i = 0; i < 65; i++) { IO_BLOCK(SINGLE) { } }", "3:17 limit turns 65"),
+    ]:  # fmt: skip
+        yield refused(name, body, line, decls)
+    yield refused("a peripheral's number twice", "", "1:28 twice-named", "peripheral r 0; peripheral s 0x0;")
+    yield refused("a peripheral's number too great", "", "1:12 limit peripheral 256", "peripheral r 256;")
+    nowhere = "for (i = 0; i < 0; i++) { p = &k[0]; IO(r, SINGLE); } DMA(p, a, 0);"
+    yield case("an unrolled loop without turns gives no address", task(nowhere, decls), "end trapped 3\n")
+    yield refused("a pure loop without turns gives one", "for (i = 0; i < 0; i++) { p = &k[0]; } DMA(p, a, 0);", "3:44 const-written", decls)
+
+
 def limits() -> Iterator[Case]:
     yield case("65,536 bytes", "task t { STOP; }".ljust(65536), STOPPED)
     yield case("65,537 bytes", "@".ljust(65537), "too long\n")
@@ -150,6 +184,7 @@ def limits() -> Iterator[Case]:
     yield refused("a long name that is unknown", "x = n" + "n" * 32 + ";", "3:5 unknown-name", "word x;")
     yield from loops()
     yield from nodes()
+    yield from sites()
 
 
 def words(kind: str, limit: str, column: int) -> Iterator[Case]:
@@ -190,7 +225,71 @@ def nodes() -> Iterator[Case]:
     yield case("three tasks, 32,769 nodes", front + three * 10922 + last + second.replace("v = 1; ", ""), "source 7:16 limit nodes 32769\n")
 
 
+def sites() -> Iterator[Case]:
+    decls = "peripheral r 0; word i; word j; nv word a[1024]; word b[1024];"
+    block = "IO_BLOCK(SINGLE) { }"
+    yield case("128 sites", task(f"for (i = 0; i < 64; i++) {{ {block} {block} }}", decls), "commit 0\na =" + " 0" * 1024 + "\nend stopped\n")
+    yield case("129 sites", task(f"for (i = 0; i < 64; i++) {{ {block} {block} }} {block}", decls), "source 4:7 limit sites 129\n")
+    most = "for (i = 0; i < 4; i++) { for (j = 0; j < 4; j++) { DMA(a, b, 0); } }"
+    yield case("16,384 kept words", task(most, decls), "commit 0\na =" + " 0" * 1024 + "\nend stopped\n")
+    yield case("16,385 kept words", task(most + " DMA(&j, b, 0);", decls), "source 4:7 limit kept-words 16385\n")
+    # A turn: 2 for the call and its target, 1 for the block and 3 for each of its statements. 32 * 1023 + 3 * 33 + 1 = 32836.
+    body = "for (i = 0; i < 32; i++) { j = IO(r, SINGLE); IO_BLOCK(SINGLE) { " + "j = 1;" * 340 + " } }"
+    yield case("nodes of an unrolled loop", task(body, decls), "source 4:7 limit nodes 32836\n")
+
+
+def pointers() -> Iterator[Case]:
+    decls = "nv word a[3] = {1, 2, 3}; nv word s; word *p; "
+    for index, output in [("1", "commit 0\na = 1 9 3\ns = 3\nend stopped\n"), ("2", "end trapped 1\n"), ("4294967295", "end trapped 1\n")]:
+        yield case(f"p[{index}] behind a[1]", task(f"p = &a[1]; s = p[{index}]; p[0] = 9;", decls), output)
+    yield case("p[1] of a pointer to nothing", task("s = p[1]; p[0] = 9;", decls), "end trapped 3\n")
+    yield case("an index is valued before its pointer is tested", task("s = p[1 / 0];", decls), "end trapped 2\n")
+    yield case("a pointer is tested before its place", task("s = p[9];", decls), "end trapped 3\n")
+    yield case("a constant through a pointer", "const nv word g[1] = {4}; word *p; task t { p = &g[0]; p[0] = 1; STOP; }", "source 1:56 const-written\n")
+    yield case("a target's place comes before the value", task("p[0] = 1 / 0;", decls), "end trapped 3\n")
+    yield case("a place out of its array", task("p = &a[3];", decls), "end trapped 1\n")
+    yield case("a pointer to a scalar", task("p = &s; p[0] = 4; s = p[0] + 1;", decls), "commit 0\na = 1 2 3\ns = 5\nend stopped\n")
+    again = decls + "task t { if (s) { s = p[0]; } else { p = &a[2]; s = p[0]; } NEXT(t); }"
+    yield case("a pointer points to nothing in each task", again, "commit 1\na = 1 2 3\ns = 3\nend trapped 3\n")
+
+
+def copies() -> Iterator[Case]:
+    six = "nv word a[6] = {1, 2, 3, 4, 5, 6}; word b[2] = {7, 8}; word *p;"
+    state = "commit 0\na = {}\nend stopped\n"
+    for body, words in [
+        ("DMA(&a[1], a, 5);", "1 1 1 1 1 1"), ("DMA(a, &a[1], 5);", "2 3 4 5 6 6"), ("DMA(&a[5], &b[1], 0);", "1 2 3 4 5 6"),
+        ("DMA(&a[4], b, 2);", "1 2 3 4 7 8"), ("p = &a[3]; DMA(p, &b[1], 1); DMA(&a[2], p, 3);", "1 2 8 5 6 6"),
+    ]:  # fmt: skip
+        yield case(body, task(body, six), state.format(words))
+    for body, trap in [
+        ("DMA(&a[6], p, 1);", 1), ("DMA(p, &a[6], 1);", 3), ("DMA(a, &b[2], 1 / 0);", 1), ("DMA(a, p, 1 / 0);", 3),
+        ("DMA(&a[5], b, 2 / 0);", 2), ("DMA(&a[5], b, 2);", 4), ("DMA(a, &b[1], 2);", 4), ("DMA(a, a, 7);", 4), ("DMA(a, a, -1);", 4),
+    ]:  # fmt: skip
+        yield case(body, task(body, six), f"end trapped {trap}\n")
+    great = "nv word a[2048]; word b[2048]; word *p;"
+    yield case("2,048 words", task("b[2047] = 5; DMA(a, b, 2048);", great), "commit 0\na =" + " 0" * 2047 + " 5\nend stopped\n")
+    yield case("2,049 words", task("DMA(a, b, 2049);", great), "end trapped 4\n")
+    yield case("a destination that was never set", task("DMA(p, b, 2048);", great), "end trapped 3\n")
+    yield case("a write before a trap isn't undone", "nv word n; task t { n = 1; NEXT(u); } task u { n = 2; n = 1 / 0; STOP; }", "commit 2\nn = 1\nend trapped 2\n")
+
+
+def readings() -> Iterator[Case]:
+    row = "peripheral radio 0; nv word n = 7; word v; task a { v = IO(radio, SINGLE, n); n = n + v; STOP; }"
+    yield case("a reading", row, "commit 0\nn = 8\nend stopped\n", readings=(1,))
+    yield case("no reading", row, "end reading\n")
+    block = "peripheral r 9; nv word n; task t {{ IO_BLOCK(TIMELY(5)) {{ IO(r, ALWAYS); n = IO(r, SINGLE, {}); }} NEXT(t); }}"
+    yield case("readings in order", block.format("1, 2"), "commit 1\nn = 5\nend reading\n", readings=(4, 5, 6))
+    yield case("arguments come before the reading", block.format("1 / n"), "end trapped 2\n", readings=(4,))
+    target = "peripheral r 9; nv word a[1]; task t { a[1] = IO(r, SINGLE, 1 / 0); STOP; }"
+    yield case("the target comes before the arguments", target, "end trapped 1\n")
+    loop = "peripheral r 0; nv word a[3]; nv word n; word i; task t { for (i = 0; i < 3; i++) { a[i] = IO(r, ALWAYS, i); } n = i; STOP; }"
+    yield case("a loop with calls", loop, "commit 0\na = 5 6 7\nn = 3\nend stopped\n", readings=(5, 6, 7))
+
+
 def meanings() -> Iterator[Case]:
+    yield from pointers()
+    yield from copies()
+    yield from readings()
     yield from (
         value("0 - 1", 4294967295), value("-1 * -1", 1), value("~0", 4294967295), value("!7", 0), value("-4294967295", 1),
         value("2147483648 * 2", 0), value("1 << 31", 2147483648), value("1 << 32", 0), value("7 << 4294967295", 0),

@@ -1,4 +1,4 @@
-"""Random programs without pointers and peripherals, and random changes of them."""
+"""Random programs, and random changes of them."""
 
 from __future__ import annotations
 
@@ -36,7 +36,12 @@ class Writer:
         names = rng.sample(NAMES, rng.randint(4, 14))
         count = rng.randint(1, min(5, len(names) - 3))
         self.tasks = names[:count]
-        self.words = [self.some_words(name) for name in names[count:]]
+        rest = names[count:]
+        self.pointers = [rest.pop() for _ in range(rng.choice([0, 0, 1, 2])) if len(rest) > 2]
+        self.peripherals = [rest.pop() for _ in range(rng.choice([0, 0, 1])) if len(rest) > 2]
+        self.words = [self.some_words(name) for name in rest]
+        self.sites = rng.choice([0, 0, 3, 12])
+        self.ifs = 0
         self.loose = [*names, "unknown"]
         self.left = rng.randint(5, 60)
 
@@ -72,6 +77,12 @@ class Writer:
             values += [",", self.number()]
         return [*values, "}"]
 
+    def other_decls(self) -> Iterator[Tokens]:
+        for name in self.pointers:
+            yield ["word", "*", name, ";"]
+        for number, name in enumerate(self.peripherals):
+            yield ["peripheral", name, self.number(number if self.chance(0.98) else 256), ";"]
+
     # Expressions
 
     def pick(self, kinds: str, is_array: bool, barred: tuple[str, ...] = ()) -> Words | None:
@@ -87,7 +98,9 @@ class Writer:
         return [words.name] if words and self.chance(0.65) else [self.number()]
 
     def index(self, depth: int) -> Tokens:
-        """`a[e]`, where e is mostly below the length."""
+        """`a[e]`, where e is mostly below the length, or `p[e]`, where it is mostly small."""
+        if self.pointers and self.chance(0.25):
+            return [self.rng.choice(self.pointers), "[", *self.below(self.rng.choice([1, 1, 2, 3]), depth), "]"]
         words = self.pick("nv const word", True)
         return self.leaf() if words is None else [words.name, "[", *self.below(words.length or 1, depth), "]"]
 
@@ -178,7 +191,54 @@ class Writer:
             return self.choice(nesting, loops, turns)
         if kind < 0.40:
             return self.nest(17 - nesting, loops)
+        if kind < 0.55 and self.pointers:
+            return self.point() if kind < 0.50 else self.through()
+        if kind < 0.70 and self.sites > 0:
+            self.sites -= 1
+            return self.site(nesting, loops, turns)
         return self.assign(loops)
+
+    def address(self) -> Tokens:
+        """`&x` or `&a[e]`."""
+        words = self.pick("nv word" if self.chance(0.8) else "nv const word", self.chance(0.7))
+        if words is None:
+            return []
+        return ["&", words.name] if words.length is None else ["&", words.name, "[", *self.below(words.length, 1), "]"]
+
+    def point(self) -> Tokens:
+        address = self.address()
+        return [self.rng.choice(self.pointers), "=", *address, ";"] if address else []
+
+    def through(self) -> Tokens:
+        return [self.rng.choice(self.pointers), "[", *self.below(self.rng.choice([1, 2, 3]), 1), "]", "=", *self.any_expr(), ";"]
+
+    def annotation(self) -> Tokens:
+        return self.rng.choice([["SINGLE"], ["ALWAYS"], ["TIMELY", "(", self.number(), ")"]])
+
+    def site(self, nesting: int, loops: tuple[str, ...], turns: int) -> Tokens:
+        kind = self.rng.random()
+        if kind < 0.2 and self.peripherals:
+            return self.call(loops)
+        if kind < 0.5 and nesting < 16:
+            return ["IO_BLOCK", "(", *self.annotation(), ")", "{", *self.body(nesting + 1, loops, turns), "}"]
+        return [] if self.ifs and not self.chance(self.careless) else self.copy()
+
+    def call(self, loops: tuple[str, ...]) -> Tokens:
+        words = self.pick("nv word", False, loops)
+        target = [words.name, "="] if words and self.chance(0.7) else []
+        args = [token for _ in range(self.rng.choice([0, 1, 2, 4])) for token in [",", *self.expr(1)]]
+        return [*target, "IO", "(", self.rng.choice(self.peripherals), ",", *self.annotation(), *args, ")", ";"]
+
+    def end(self, kinds: str) -> Tokens:
+        if self.pointers and self.chance(0.3):
+            return [self.rng.choice(self.pointers)]
+        words = self.pick(kinds, True)
+        return [words.name] if words and self.chance(0.5) else self.address()
+
+    def copy(self) -> Tokens:
+        to, source = self.end("nv word"), self.end("nv const word")
+        words = [self.number(self.rng.choice([0, 1, 1, 2, 3, 6]))] if self.chance(0.8) else self.below(4, 1)
+        return ["DMA", "(", *to, ",", *source, ",", *words, ")", ";"] if to and source else []
 
     def assign(self, loops: tuple[str, ...]) -> Tokens:
         is_array = self.chance(0.4)
@@ -198,9 +258,11 @@ class Writer:
         return [*head, "{", *self.body(nesting + 1, (*loops, i), turns // max(1, count)), "}"]
 
     def choice(self, nesting: int, loops: tuple[str, ...], turns: int) -> Tokens:
+        self.ifs += 1
         tokens = ["if", "(", *self.any_expr(), ")", "{", *self.body(nesting + 1, loops, turns), "}"]
         if self.chance(0.5):
             tokens += ["else", "{", *self.body(nesting + 1, loops, turns), "}"]
+        self.ifs -= 1
         return tokens
 
     def nest(self, more: int, loops: tuple[str, ...]) -> Tokens:
@@ -229,7 +291,9 @@ class Writer:
         return tokens
 
     def program(self) -> Tokens:
-        tokens = [token for words in self.words for token in self.decl(words)]
+        decls = [*(self.decl(words) for words in self.words), *self.other_decls()]
+        self.rng.shuffle(decls)
+        tokens = [token for decl in decls for token in decl]
         for name in self.tasks:
             leave = self.chain(self.rng.choice([15, 16, 16, 17])) if self.chance(0.05) else self.exit(self.rng.choice([0, 1, 2, 3]))
             tokens += ["task", name, "{", *self.body(1, (), 30), *self.body(1, (), 30), *leave, "}"]

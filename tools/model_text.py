@@ -1,4 +1,4 @@
-"""The tokens and trees of programs without pointers and peripherals, for the model of `ease walk`."""
+"""The tokens and trees of programs, for the model of `ease walk`."""
 
 from __future__ import annotations
 
@@ -99,6 +99,45 @@ class Assign(NamedTuple):
     value: Expr
 
 
+class Point(NamedTuple):
+    """`p = &a[e];`, or `p = &x;` without an index."""
+
+    name: Name
+    other: Name
+    index: Expr | None
+
+
+class Target(NamedTuple):
+    name: Name
+    index: Expr | None
+
+
+class Io(NamedTuple):
+    at: Place
+    target: Target | None
+    name: Name
+    args: list[Expr]
+
+
+class Block(NamedTuple):
+    body: list[Stmt]
+
+
+class End(NamedTuple):
+    """An end of a copy: a bare name, or `&` with or without an index."""
+
+    name: Name
+    is_bare: bool
+    index: Expr | None
+
+
+class Dma(NamedTuple):
+    at: Place
+    to: End
+    source: End
+    words: Expr
+
+
 class If(NamedTuple):
     condition: Expr
     yes: list[Stmt]
@@ -126,20 +165,27 @@ class Choose(NamedTuple):
     no: Exit
 
 
-Stmt = Union[Assign, If, For]
+Stmt = Union[Assign, Point, Io, Block, Dma, If, For]
 Exit = Union[Next, Stop, Choose]
 
 
 class Decl(NamedTuple):
-    """A declaration of words; `kind` is `nv`, `const` or `vol`, and a scalar has no length."""
+    """A declaration; `kind` is `nv`, `const` or `vol` of words, `pointer` or `peripheral`. A scalar has no length."""
 
     kind: str
     name: Name
     length: int | None
     values: list[int]
+    number: int = 0
+
+    @property
+    def has_words(self) -> bool:
+        return self.kind in ("nv", "const", "vol")
 
     @property
     def words(self) -> int:
+        if not self.has_words:
+            return 0
         return 1 if self.length is None else self.length
 
 
@@ -210,7 +256,7 @@ class Parser:
 
     def program(self) -> Program:
         decls = []
-        while self.ahead.text in ("const", "nv", "word"):
+        while self.ahead.text in ("const", "nv", "word", "peripheral"):
             decls.append(self.decl())
         tasks = [self.task()]
         while self.ahead.text:
@@ -218,12 +264,20 @@ class Parser:
         return Program(decls, tasks)
 
     def decl(self) -> Decl:
+        if self.accepts("peripheral"):
+            name, number = self.name(), self.take("number").value
+            self.expect(";")
+            return Decl("peripheral", name, None, [], number)
         kind = "const" if self.accepts("const") else "vol"
         if self.accepts("nv"):
             kind = "const" if kind == "const" else "nv"
         elif kind == "const":
             raise NoTree
         self.expect("word")
+        if kind == "vol" and self.accepts("*"):
+            name = self.name()
+            self.expect(";")
+            return Decl("pointer", name, None, [])
         name, length = self.name(), None
         if self.accepts("["):
             length = self.take("number").value
@@ -262,6 +316,15 @@ class Parser:
         start = self.next
         if self.ahead.kind == "name":
             return self.assign()
+        if self.ahead.text == "IO":
+            return self.call(None)
+        if self.accepts("IO_BLOCK"):
+            self.expect("(")
+            self.annotation()
+            self.expect(")")
+            return Block(self.braces(nesting))
+        if self.ahead.text == "DMA":
+            return self.copy()
         if self.accepts("for"):
             return self.loop(self.tokens[start].at, nesting)
         if self.accepts("if"):
@@ -272,15 +335,63 @@ class Parser:
             self.next = start
         return None
 
-    def assign(self) -> Assign:
-        name, index = self.name(), None
-        if self.accepts("["):
-            index = self.expr()
-            self.expect("]")
+    def assign(self) -> Stmt:
+        name = self.name()
+        index = self.index()
         self.expect("=")
+        if index is None and self.accepts("&"):
+            point = Point(name, self.name(), self.index())
+            self.expect(";")
+            return point
+        if self.ahead.text == "IO":
+            return self.call(Target(name, index))
         value = self.expr()
         self.expect(";")
         return Assign(name, index, value)
+
+    def index(self) -> Expr | None:
+        """The expression in brackets, if a bracket is ahead."""
+        if not self.accepts("["):
+            return None
+        index = self.expr()
+        self.expect("]")
+        return index
+
+    def call(self, target: Target | None) -> Io:
+        at = self.ahead.at
+        self.expect("IO", "(")
+        name = self.name()
+        self.expect(",")
+        self.annotation()
+        args = []
+        while self.accepts(","):
+            args.append(self.expr())
+        self.expect(")", ";")
+        return Io(at, target, name, args)
+
+    def annotation(self) -> None:
+        if self.accepts("TIMELY"):
+            self.expect("(")
+            self.take("number")
+            self.expect(")")
+        elif not self.accepts("SINGLE"):
+            self.expect("ALWAYS")
+
+    def copy(self) -> Dma:
+        at = self.ahead.at
+        self.expect("DMA", "(")
+        to = self.end()
+        self.expect(",")
+        source = self.end()
+        self.expect(",")
+        words = self.expr()
+        self.expect(")", ";")
+        return Dma(at, to, source, words)
+
+    def end(self) -> End:
+        if self.accepts("&"):
+            return End(self.name(), False, self.index())
+        return End(self.name(), True, None)
 
     def loop(self, at: Place, nesting: int) -> For:
         self.expect("(")

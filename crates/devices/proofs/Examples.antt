@@ -41,34 +41,39 @@ small_world = record {
   retained = [];
 }
 
-reading_of_peripheral_2 : reading_in small_world 2 1 ≡ 8
+reading_of_peripheral_2 : reading_in small_world.feeds 2 1 ≡ 8
 unfolding reading values_in small_world
 reading_of_peripheral_2 = refl
 
-reading_of_peripheral_7 : reading_in small_world 7 1 ≡ 0
+reading_of_peripheral_7 : reading_in small_world.feeds 7 1 ≡ 0
 unfolding reading values_in small_world
 reading_of_peripheral_7 = refl
 
-reading_without_feed : reading_in small_world 0 1 ≡ 0
+reading_without_feed : reading_in small_world.feeds 0 1 ≡ 0
 unfolding reading values_in small_world
 reading_without_feed = refl
 
 -- the clock before the first step, before the last one of the first row, and before the one behind both failures
-clock_at_first_step : clock_at small_world 1 ≡ 0
+clock_at_first_step : clock_at small_world.power 1 ≡ 0
 unfolding small_world
 clock_at_first_step = refl
 
-clock_before_failures : clock_at small_world 3 ≡ 2
+clock_before_failures : clock_at small_world.power 3 ≡ 2
 unfolding small_world
 clock_before_failures = refl
 
-clock_behind_failures : clock_at small_world 4 ≡ 18
+clock_behind_failures : clock_at small_world.power 4 ≡ 18
 unfolding small_world
 clock_behind_failures = refl
 
-clock_at_last_step : clock_at small_world 13 ≡ 27
+clock_at_last_step : clock_at small_world.power 13 ≡ 27
 unfolding small_world
 clock_at_last_step = refl
+
+-- behind the last row no failure follows
+clock_behind_the_end : clock_at small_world.power 14 ≡ 28
+unfolding small_world
+clock_behind_the_end = refl
 
 -- all steps, and all ticks, those behind the last row among them
 steps_of_world : steps_of small_world.power ≡ 13

@@ -1,4 +1,5 @@
 mod Examples
 pub mod MemCabinetLemmas
 pub mod NumberLemmas
+pub mod ReadingLemmas
 pub mod SinkLemmas

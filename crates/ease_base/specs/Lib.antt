@@ -1,8 +1,11 @@
 pub mod Cabinet
 pub mod Calls
 pub mod Count
+pub mod Found
+pub mod Lines
 pub mod MemCabinet
 pub mod MemSink
+pub mod Reading
 pub mod Sink
 pub mod System
 pub mod formers

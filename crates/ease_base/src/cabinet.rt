@@ -38,6 +38,7 @@ pub trait Cabinet {
             → BringsFront (told self.old) (contents self.old) name.now limit into.new.items }
 
         ensures faults { faults self.old ≤ faults self.new }
+        ensures steady { (IsErrOf result FetchError.Failed → ⊥) → faults self.new ≡ faults self.old }
         ensures long_contents { long_contents self.new ≡ counted (long_contents self.old) result }
         ensures told { told self.new ≡ told self.old }
         ensures contents { (other : List ℕ) → contents self.new other ≡ contents self.old other };

@@ -10,6 +10,7 @@ mod mem_cabinet;
 mod mem_sink;
 mod number;
 mod place;
+mod reading;
 mod sink;
 mod system;
 #[cfg(test)]

@@ -21,7 +21,8 @@ pub trait Sink {
         ensures took { IfOk result (λ n. taken self.new ≡ extended (taken self.old) (take n piece.now)) }
         ensures failed { OnErr result (HasRisen (faults self.old) (faults self.new)) }
         ensures nothing { OnErr result (taken self.new ≡ taken self.old) }
-        ensures faults { faults self.old ≤ faults self.new };
+        ensures faults { faults self.old ≤ faults self.new }
+        ensures steady { OnOk result (faults self.new ≡ faults self.old) };
 }
 
 /// Writes the whole piece, or a front of it and then `Failed`.
@@ -30,6 +31,7 @@ pub fn send_all<K: Sink>(out: &mut K, piece: &[u8]) -> Result<(), Failed>
     ensures front { TookFront (K.taken out.old) (K.taken out.new) piece.now }
     ensures failed { OnErr result (HasRisen (K.faults out.old) (K.faults out.new)) }
     ensures faults { K.faults out.old ≤ K.faults out.new }
+    ensures steady { OnOk result (K.faults out.new ≡ K.faults out.old) }
 {
     let mut sent = 0;
     while sent < piece.len() {

@@ -7,10 +7,10 @@ ghost use Rattle.ease_base.specs.System.{faulted};
 use crate::cabinet::Cabinet;
 use crate::count::raise;
 use crate::error::{Failed, FetchError};
+use crate::reading::read_within;
 use crate::sink::Sink;
 use std::alloc::Global;
 use std::fs;
-use std::io::Read;
 use std::marker::Model;
 use std::rt::Files;
 
@@ -57,18 +57,7 @@ fn read_file<R: Files>(
     let Ok(mut file) = fs::open(system, path) else {
         return Err(FetchError::Failed);
     };
-    let mut piece = [0; 4096];
-    while into.len() <= limit {
-        let most = piece.len().min(limit + 1 - into.len());
-        let Ok(count) = file.read(&mut piece[..most]) else {
-            return Err(FetchError::Failed);
-        };
-        if count == 0 {
-            return Ok(());
-        }
-        into.extend_from_slice(&piece[..count])?;
-    }
-    Err(FetchError::TooLong)
+    read_within(&mut file, limit, into)
 }
 
 impl<R: Files> Cabinet for FileCabinet<R> {

@@ -61,14 +61,14 @@ writes-whole words f status.NoMemory text before after said is = absurd said
 
 -- a run's answer is what is said of its tree
 pub run_says : (program : Program) (tasks : ℕ) (end : WalkEnd) (text : List ℕ) → IsRun program tasks (run_status end) text → ProgramSays program tasks (run_status end) text
-run_says program tasks (ends.Trapped code) text run = run
+run_says program tasks (ends.Trapped trap) text run = run
 run_says program tasks ends.Stopped text run = run
 run_says program tasks ends.Limit text run = run
 run_says program tasks ends.NoReading text run = run
 
 -- and its status is right for the tree
 pub run_settles : (program : Program) (end : WalkEnd) → Accepted program → ProgramSettles program (run_status end)
-run_settles program (ends.Trapped code) accepted = accepted
+run_settles program (ends.Trapped trap) accepted = accepted
 run_settles program ends.Stopped accepted = accepted
 run_settles program ends.Limit accepted = accepted
 run_settles program ends.NoReading accepted = accepted

@@ -20,8 +20,10 @@ use Rattle.ease_cli.specs.Lines.{usage, read_fault, too_long, text_line, check_l
 
 -- the status of a run, by its end
 abbrev pub run_status : WalkEnd → Status
-run_status (end.Trapped code) = Trapped
-run_status _ = Ok
+run_status (end.Trapped trap) = Trapped
+run_status end.Stopped = Ok
+run_status end.Limit = Ok
+run_status end.NoReading = Ok
 
 -- The text is that of the unbroken run, of at most so many tasks, of the checked form of an accepted program,
 -- and the status is that of the run.
@@ -156,3 +158,14 @@ SourceSettles source _ = ⊥
 abbrev pub Settles : List ℕ → Status → Type 0
 Settles source NoMemory = Unit {0}
 Settles source status = SourceSettles source status
+
+-- the statuses that a fault of the cabinet leaves: it is told, unless its line can't be written or memory ran out
+abbrev pub TellsFetchFault : Status → Type 0
+TellsFetchFault ReadFault = Unit {0}
+TellsFetchFault WriteFault = Unit {0}
+TellsFetchFault NoMemory = Unit {0}
+TellsFetchFault Ok = ⊥
+TellsFetchFault Usage = ⊥
+TellsFetchFault SourceRefused = ⊥
+TellsFetchFault TooLong = ⊥
+TellsFetchFault Trapped = ⊥

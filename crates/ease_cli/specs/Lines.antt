@@ -1,5 +1,6 @@
 -- The lines of refusals.
 use Rattle.std.specs.Prelude.{ℕ, List, [], ◌∷◌, ◌++◌, codes, decimal}
+use Rattle.ease_base.specs.Lines.{line}
 use Rattle.ease_base.specs.declared.place.Pos.{Pos}
 use Rattle.task_text.specs.declared.error.TextError.{TextError}
 use Rattle.task_text.specs.declared.error.TextError.TheVariants as text
@@ -7,10 +8,6 @@ use Rattle.task_check.specs.declared.error.CheckError.{CheckError}
 use Rattle.task_check.specs.declared.error.CheckError.TheVariants as check
 use Rattle.task_check.specs.declared.error.Limit.{Limit}
 use Rattle.task_check.specs.declared.error.Limit.TheVariants.{Tasks, Names, NvWords, VolWords, Length, NameBytes, PeripheralNumber, Turns, Loops, Sites, KeptWords, Nodes}
-
--- a text with a line feed behind it
-abbrev pub line : List ℕ → List ℕ
-line text = text ++ 10 ∷ []
 
 -- line and column, with a colon between them
 abbrev pub place : Pos → List ℕ

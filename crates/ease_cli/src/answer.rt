@@ -1,5 +1,5 @@
 //! What a command line says: a status, and the bytes that are written with it.
-ghost use Rattle.std.specs.Prelude.{◌≡◌, ◌≢◌, ◌⊎◌, ℕ, List, ◌≤◌, IfOk, OnOk, length, map, string_bytes};
+ghost use Rattle.std.specs.Prelude.{◌≡◌, ◌≢◌, ◌⊎◌, ℕ, List, ◌≤◌, ◌<◌, IfOk, OnOk, length, map, string_bytes};
 ghost use Rattle.ease_base.specs.Count.{HasRisen, raised};
 ghost use Rattle.ease_cli.specs.Answer.{Says, files_of, run_status, SourceSays, ProgramSays, IsThere, SourceSettles, ProgramSettles};
 ghost use Rattle.ease_cli.specs.Lines.{check_line};
@@ -35,6 +35,7 @@ pub fn command_answer<C: Cabinet>(
         (files_of (C.told files.old) (C.contents files.old) (C.faults files.old) (C.faults files.new) (C.long_contents files.old) (C.long_contents files.new)) a.status a.text) }
     ensures settled { (source : List ℕ) → IsThere (map string_bytes words.now) (C.told files.old) (C.contents files.old) source
         → (HasRisen (C.faults files.old) (C.faults files.new) → ⊥) → IfOk result (λ a. SourceSettles source a.status) }
+    ensures fetch_once { C.faults files.old < C.faults files.new → IfOk result (λ a. a.status ≡ Status.ReadFault) }
     ensures told { C.told files.new ≡ C.told files.old }
     ensures contents { (name : List ℕ) → C.contents files.new name ≡ C.contents files.old name }
     ensures faults { C.faults files.old ≤ C.faults files.new }

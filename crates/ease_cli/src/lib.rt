@@ -3,14 +3,8 @@
 
 mod answer;
 mod form;
-#[cfg(test)]
-mod limit_tests;
 mod lines;
-#[cfg(test)]
-mod refusal_tests;
 mod status;
-#[cfg(test)]
-mod tests;
 mod top;
 
 pub use status::Status;

@@ -1,7 +1,7 @@
 //! The one public call: words, files and output of a command.
-ghost use Rattle.std.specs.Prelude.{◌≡◌, ◌⊎◌, ℕ, List, ◌≤◌, map, string_bytes};
+ghost use Rattle.std.specs.Prelude.{◌≡◌, ◌⊎◌, ℕ, List, ◌≤◌, ◌<◌, map, string_bytes};
 ghost use Rattle.ease_base.specs.Count.{HasRisen, raised};
-ghost use Rattle.ease_cli.specs.Answer.{Says, files_of, Writes, IsThere, Settles};
+ghost use Rattle.ease_cli.specs.Answer.{Says, files_of, Writes, IsThere, Settles, TellsFetchFault};
 ghost use Rattle.ease_cli.specs.Form.{IsNoCommand};
 
 use crate::answer::{Answer, command_answer};
@@ -27,6 +27,9 @@ pub fn ease<C: Cabinet, K: Sink>(
     ensures usage { IsNoCommand (map string_bytes words.now) → (result ≡ Status.Usage) ⊎ (result ≡ Status.WriteFault) ⊎ (result ≡ Status.NoMemory) }
 
     ensures write_fault { result ≡ Status.WriteFault → HasRisen (K.faults out.old) (K.faults out.new) }
+    // Nothing is tried again behind a failure: a fault of the cabinet or of the sink is told by the status.
+    ensures fetch_once { C.faults files.old < C.faults files.new → TellsFetchFault result }
+    ensures write_once { K.faults out.old < K.faults out.new → result ≡ Status.WriteFault }
 
     // Where the file is there and nothing fails, the status is Ok exactly where the source is accepted, else
     // SourceRefused.

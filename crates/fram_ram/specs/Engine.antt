@@ -1,5 +1,6 @@
 -- The engine's state, and what a transfer's next word makes of it (docs/MACHINE.md, "The DMA engine").
-use Rattle.std.specs.Prelude.{◌≡◌, ℕ, ◌<◌, ◌^◌, ◌+◌, ◌-◌, ◌==◌, if◌then◌else◌}
+use Rattle.std.specs.Prelude.{◌≡◌, ℕ, zero, suc, ◌<◌, ◌^◌, ◌+◌, ◌-◌, ◌==◌, if◌then◌else◌}
+use Rattle.fram_ram.specs.Memories.{put}
 
 -- a transfer: the two addresses at its start, the words that were moved, and those that are left
 pub record Transfer : Type 0 where
@@ -38,3 +39,17 @@ length_of t = t.moved + t.left
 -- one word further; after the last word there is no transfer
 abbrev pub advanced : Transfer → Transfer
 advanced t = if t.left == 1 then idle else record t { moved = t.moved + 1; left = t.left - 1 }
+
+-- a store after the next word, which is read at its own turn
+abbrev pub moved_word : Transfer → (ℕ → ℕ) → ℕ → ℕ
+moved_word t store = put store (next_destination t) (store (next_source t))
+
+-- a store after so many words of a transfer, one after the other
+unfoldable pub moved_words : ℕ → Transfer → (ℕ → ℕ) → ℕ → ℕ
+moved_words zero t store = store
+moved_words (suc n) t store = moved_words n (advanced t) (moved_word t store)
+
+-- a store in which n words were copied, one update each, from place k of both ranges on and the lowest first
+unfoldable pub copied : (to from k n : ℕ) → (ℕ → ℕ) → ℕ → ℕ
+copied to from k zero store = store
+copied to from k (suc n) store = copied to from (k + 1) n (put store (to + k) (store (from + k)))

@@ -1,3 +1,4 @@
 pub mod Addresses
 pub mod Engine
 pub mod Memories
+pub mod TransferLaws

@@ -1,6 +1,6 @@
 //! The engine that copies words from one range of addresses to another, one word at each call.
 ghost use Rattle.std.specs.Prelude.{◌≡◌, ◌+◌, ◌<◌, ◌&&◌, is_ok, OnOk, OnErr};
-ghost use Rattle.fram_ram.specs.Engine.{Transfer, idle, begun, next_source, next_destination, length_of, advanced};
+ghost use Rattle.fram_ram.specs.Engine.{Transfer, idle, begun, next_source, next_destination, length_of, advanced, moved_word};
 ghost use Rattle.fram_ram.specs.Memories.{has_word, words, put};
 
 use crate::memories::{Bus, Memories};
@@ -102,8 +102,7 @@ impl Engine {
     pub fn move_one(&mut self, memories: &mut Memories) -> Result<(), Bus>
         requires { 0 < self.old.left }
         ensures found { is_ok result ≡ (has_word (next_source self.old) && has_word (next_destination self.old)) }
-        ensures moved { OnOk result (words memories.new
-            ≡ put (words memories.old) (next_destination self.old) (words memories.old (next_source self.old))) }
+        ensures moved { OnOk result (words memories.new ≡ moved_word self.old (words memories.old)) }
         ensures advanced { OnOk result (self.new ≡ advanced self.old) }
         ensures unwritten { OnErr result (words memories.new ≡ words memories.old) }
         ensures stopped { OnErr result (self.new ≡ idle) }

@@ -2,9 +2,11 @@
 #![tactic(auto)]
 
 mod engine;
+mod laws;
 mod memories;
 #[cfg(test)]
 mod tests;
 
 pub use engine::Engine;
+pub use laws::a_transfer_is_one_update_a_word;
 pub use memories::{Bus, Memories};

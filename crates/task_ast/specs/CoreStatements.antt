@@ -4,17 +4,18 @@ use Rattle.std.specs.List.{AllByRecursion}
 use Rattle.std.proofs.Common.{subst, sym, ap, ◌∙◌}
 use Rattle.task_ast.specs.declared.core_form.CoreExpr.{CoreExpr}
 use Rattle.task_ast.specs.declared.core_form.CoreEnd.{CoreEnd}
+use Rattle.task_ast.specs.declared.core_form.CoreTarget.{CoreTarget}
 use Rattle.task_ast.specs.declared.core_form.CoreStmt.{CoreStmt, Row_of-CoreStmt, end_of-CoreStmt, more_of-CoreStmt, items-the_row-CoreStmt, items_shown-the_row-CoreStmt-0, roll-CoreStmt, roll-out-CoreStmt}
 use Rattle.task_ast.specs.declared.core_form.CoreStmt.TheVariants as stmt
 use Rattle.task_ast.specs.declared.core_form.CoreStmt.TheBlock.{shown-the_row-CoreStmt-0}
 
 -- a claim holds of each variant where it holds of each statement inside
 pub record HoldsByParts (P : CoreStmt → Type 0) : Type 0 where
-  pub assign : (array : ℕ) (index e : CoreExpr) → P (stmt.Assign array index e)
+  pub assign : (x : CoreTarget) (e : CoreExpr) → P (stmt.Assign x e)
   pub point : (p array : ℕ) (index : CoreExpr) → P (stmt.Point p array index)
   pub choose : (c : CoreExpr) (yes_part no_part : List CoreStmt) → AllByRecursion P yes_part → AllByRecursion P no_part → P (stmt.If c yes_part no_part)
   pub loop : (i turns : ℕ) (body : List CoreStmt) → AllByRecursion P body → P (stmt.Loop i turns body)
-  pub io : (site : ℕ) (x : Option (ℕ × CoreExpr)) (p : ℕ) (args : List CoreExpr) → P (stmt.Io site x p args)
+  pub io : (site : ℕ) (x : Option CoreTarget) (p : ℕ) (args : List CoreExpr) → P (stmt.Io site x p args)
   pub block : (site : ℕ) (body : List CoreStmt) → AllByRecursion P body → P (stmt.Block site body)
   pub copy : (site : ℕ) (to from : CoreEnd) (n : CoreExpr) → P (stmt.Copy site to from n)
 
@@ -25,7 +26,7 @@ all_items P m row all = subst (AllByRecursion P) (sym (items_shown-the_row-CoreS
 mutual
   -- what holds of each variant by its parts holds of every checked statement
   pub for_every : (P : CoreStmt → Type 0) → HoldsByParts P → (s : CoreStmt) → P s
-  for_every P h (stmt.Assign array index e) = h.assign array index e
+  for_every P h (stmt.Assign x e) = h.assign x e
   for_every P h (stmt.Point p array index) = h.point p array index
   for_every P h (stmt.If' c m yes_row n no_row) =
       subst P (sym (stmt.rolls-If c _ _) ∙ ap roll-CoreStmt (sym (stmt.outs-If' c m yes_row n no_row)) ∙ roll-out-CoreStmt (stmt.If' c m yes_row n no_row))

@@ -1,10 +1,13 @@
 pub mod CoreExpressions
+pub mod CoreNodes
+pub mod CoreSites
 pub mod CoreStatements
 pub mod Exits
+pub mod Expressions
 pub mod NameToken
+pub mod Pointing
 pub mod Readable
 pub mod Rows
 pub mod Sizes
-pub mod Expressions
 pub mod Statements
 pub mod WellFormed

@@ -2,14 +2,14 @@
 use ease_base::{Boxed, List, Pos, Text, Words};
 
 /// A name and the place of its first byte.
-#[derive(Debug, Drop)]
+#[derive(Drop)]
 pub struct Name {
     pub text: Text,
     pub at: Pos,
 }
 
 /// How often a site is carried out: once, again when its record is too old, or in every attempt.
-#[derive(Clone, Copy, Debug, PartialEq, Eq)]
+#[derive(Clone, Copy, PartialEq, Eq)]
 pub enum Ann {
     Single,
     /// With the ticks after which a record is expired.
@@ -18,7 +18,7 @@ pub enum Ann {
 }
 
 /// The prefixes `!`, `~` and `-`.
-#[derive(Clone, Copy, Debug, PartialEq, Eq)]
+#[derive(Clone, Copy, PartialEq, Eq)]
 pub enum Op1 {
     Not,
     Inv,
@@ -26,7 +26,7 @@ pub enum Op1 {
 }
 
 /// The binary operators; `Both` is `&&` and `Either` is `||`.
-#[derive(Clone, Copy, Debug, PartialEq, Eq)]
+#[derive(Clone, Copy, PartialEq, Eq)]
 pub enum Op2 {
     Add,
     Sub,
@@ -49,7 +49,7 @@ pub enum Op2 {
 }
 
 /// An expression.
-#[derive(Debug, Drop)]
+#[derive(Drop)]
 pub enum Expr {
     /// A number and its place.
     Number(u32, Pos),
@@ -63,14 +63,14 @@ pub enum Expr {
 }
 
 /// What is assigned: `x` or `a[e]`.
-#[derive(Debug, Drop)]
+#[derive(Drop)]
 pub enum Target {
     Scalar(Name),
     Element(Name, Expr),
 }
 
 /// An end of a copy, or what a pointer is set to: `a` or `p`, `&x`, `&a[e]`.
-#[derive(Debug, Drop)]
+#[derive(Drop)]
 pub enum Place {
     Bare(Name),
     Scalar(Name),
@@ -78,7 +78,7 @@ pub enum Place {
 }
 
 /// A statement.
-#[derive(Debug, Drop)]
+#[derive(Drop)]
 pub enum Stmt {
     Assign(Target, Expr),
     /// A pointer and what it is set to, a `Scalar` or an `Element`.
@@ -95,7 +95,7 @@ pub enum Stmt {
 }
 
 /// How a task ends.
-#[derive(Debug, Drop)]
+#[derive(Drop)]
 pub enum Exit {
     Next(Name),
     Stop,
@@ -103,7 +103,7 @@ pub enum Exit {
 }
 
 /// A task, with the place of its closing brace.
-#[derive(Debug, Drop)]
+#[derive(Drop)]
 pub struct Task {
     pub name: Name,
     pub body: List<Stmt>,
@@ -112,7 +112,7 @@ pub struct Task {
 }
 
 /// Where words live: nonvolatile, nonvolatile and constant, or volatile.
-#[derive(Clone, Copy, Debug, PartialEq, Eq)]
+#[derive(Clone, Copy, PartialEq, Eq)]
 pub enum Kind {
     Nv,
     Const,
@@ -120,7 +120,7 @@ pub enum Kind {
 }
 
 /// A declaration.
-#[derive(Debug, Drop)]
+#[derive(Drop)]
 pub enum Decl {
     /// The kind, the name, the length where brackets give one, and the declared values.
     Words(Kind, Name, Option<u32>, Words),
@@ -129,7 +129,7 @@ pub enum Decl {
 }
 
 /// A whole program.
-#[derive(Debug, Drop)]
+#[derive(Drop)]
 pub struct Program {
     pub decls: List<Decl>,
     pub tasks: List<Task>,

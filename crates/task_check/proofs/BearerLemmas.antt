@@ -9,16 +9,17 @@ use Rattle.task_ast.specs.declared.tree.Decl.{Decl}
 use Rattle.task_ast.specs.declared.tree.Decl.TheVariants as decl
 use Rattle.task_ast.specs.declared.tree.Task.{Task}
 use Rattle.task_ast.specs.declared.tree.Program.{Program}
+use Rattle.task_ast.specs.declared.core_form.Array.{Array}
 use Rattle.task_check.specs.declared.error.CheckError.{CheckError}
 use Rattle.task_check.specs.declared.error.CheckError.TheVariants.{TwiceNamed}
-use Rattle.task_check.specs.declared.error.Limit.TheVariants.{Nodes}
+use Rattle.task_check.specs.declared.names.Numbers.{Numbers}
 use Rattle.task_check.specs.declared.names.Meaning.{Meaning}
 use Rattle.task_check.specs.declared.names.Meaning.TheVariants as meaning
-use Rattle.task_check.specs.Names.{Declared, Meanings, or_else, look_up, decl_text, decl_meaning, task_text, declared_arrays, declared_tasks, names_of}
-use Rattle.task_check.specs.Refusals.{twice_named}
-use Rattle.task_check.specs.Limits.{passes, task_limit, name_limit, bytes_limit, node_limit}
+use Rattle.task_check.specs.Names.{Declared, Meanings, or_else, look_up, decl_text, decl_meaning, task_text, none_yet, with_decl, declared_words, declared_tasks, names_of}
+use Rattle.task_check.specs.Refusals.{where_true, twice_named}
+use Rattle.task_check.specs.Limits.{task_limit, name_limit, bytes_limit}
 use Rattle.task_check.specs.Nodes.{nodes_of_task}
-use Rattle.task_check.specs.Faults.{inner_faults, tasks_faults}
+use Rattle.task_check.specs.Faults.{inner_faults, close_faults, tasks_faults}
 use Rattle.task_check.specs.Bearers.{other_bearer}
 use Rattle.task_check.specs.Counted.{tasks_at}
 use Rattle.task_check.proofs.NameLemmas.{look_up-append}
@@ -26,8 +27,11 @@ use Rattle.task_check.proofs.MeaningLemmas.{all-append, found_holds}
 
 -- a task among these has a number below n
 abbrev pub IsBelow : ℕ → Meaning → Type 0
+IsBelow n (meaning.Scalar a kind) = Unit {0}
+IsBelow n (meaning.Array a kind) = Unit {0}
+IsBelow n (meaning.Pointer p) = Unit {0}
+IsBelow n (meaning.Peripheral p) = Unit {0}
 IsBelow n (meaning.Task t) = t < n
-IsBelow n _ = Unit {0}
 
 -- the declared texts
 abbrev pub texts_of : List Declared → List (List ℕ)
@@ -49,10 +53,12 @@ other_number : (t n : ℕ) → t < n → (t == n) ≡ false
 other_number t n h = grind arith
 
 -- the first bearer among earlier names and this task decides
-by_bearer : (at : Pos) (n : ℕ) (o : Option Meaning) → IfSome o (IsBelow n) → other_bearer at n (or_else o (Some (meaning.Task n))) ≡ (if is_some o then TwiceNamed at ∷ [] else [])
+by_bearer : (at : Pos) (n : ℕ) (o : Option Meaning) → IfSome o (IsBelow n) → other_bearer at n (or_else o (Some (meaning.Task n))) ≡ where_true (is_some o) (TwiceNamed at)
 by_bearer at n None h = ap (λ b. if b then [] else TwiceNamed at ∷ []) (same_number n)
 by_bearer at n (Some (meaning.Scalar a kind)) h = refl
 by_bearer at n (Some (meaning.Array a kind)) h = refl
+by_bearer at n (Some (meaning.Pointer p)) h = refl
+by_bearer at n (Some (meaning.Peripheral p)) h = refl
 by_bearer at n (Some (meaning.Task t)) h = ap (λ b. if b then [] else TwiceNamed at ∷ []) (other_number t n h)
 
 still_below : (n : ℕ) (ds : List Declared) → AllByRecursion (λ d. IsBelow n d.1) ds → AllByRecursion (λ d. IsBelow (n + 1) d.1) ds
@@ -62,6 +68,8 @@ still_below n (d ∷ ds) h = (more d.1 h.0, still_below n ds h.1)
     more : (m : Meaning) → IsBelow n m → IsBelow (n + 1) m
     more (meaning.Scalar a kind) k = tt
     more (meaning.Array a kind) k = tt
+    more (meaning.Pointer p) k = tt
+    more (meaning.Peripheral p) k = tt
     more (meaning.Task t) k = omega arith
 
 -- a task as a declared name
@@ -74,16 +82,16 @@ front_out [] b c d e f = refl
 front_out (x ∷ a) b c d e f = ap (λ (l : List CheckError). x ∷ l) (front_out a b c d e f)
 
 -- the faults of tasks by counts are those behind the tasks before them
-pub counted_is : (names : Meanings) (texts : List (List ℕ)) (earlier : List Declared) (before : List Task) (number nodes : ℕ) (ts : List Task)
+pub counted_is : (names : Meanings) (arrays : List Array) (texts : List (List ℕ)) (earlier : List Declared) (before : List Task) (number nodes : ℕ) (ts : List Task)
     → number ≡ length before → nodes ≡ sum_by nodes_of_task before → texts_of earlier ≡ texts ++ map task_text before
     → AllByRecursion (λ d. IsBelow (number + 1) d.1) earlier → names ≡ look_up (earlier ++ declared_tasks (number + 1) ts)
-    → tasks_at names (length texts) number nodes ts ≡ tasks_faults names texts before ts
-counted_is names texts earlier before number nodes [] at_number at_nodes at_texts below is = refl
-counted_is names texts earlier before number nodes (t ∷ ts) at_number at_nodes at_texts below is =
-    (λ i. ((name i ++ task_limit t.name.at (at_number i + 1) ++ name_limit t.name.at (sum i) ++ bytes_limit t.name) ++ inner_faults names t ++ passes Nodes 32768 t.close (at_nodes i + nodes_of_task t))
-    ++ counted_is names texts (earlier ++ named t (number + 1) ∷ []) (before ++ t ∷ []) (number + 1) (nodes + nodes_of_task t) ts more_tasks more_nodes more_texts all_below longer i)
-    ∙ ap (λ (l : List CheckError). l ++ tasks_faults names texts (before ++ t ∷ []) ts)
-    (front_out (twice_named (texts ++ map task_text before) t.name) (task_limit t.name.at (length before + 1)) (name_limit t.name.at (length texts + length before + 1)) (bytes_limit t.name) (inner_faults names t) (node_limit before t))
+    → tasks_at names arrays (length texts) number nodes ts ≡ tasks_faults names arrays texts before ts
+counted_is names arrays texts earlier before number nodes [] at_number at_nodes at_texts below is = refl
+counted_is names arrays texts earlier before number nodes (t ∷ ts) at_number at_nodes at_texts below is =
+    (λ i. ((name i ++ task_limit t.name.at (at_number i + 1) ++ name_limit t.name.at (sum i) ++ bytes_limit t.name) ++ inner_faults names arrays t ++ close_faults names arrays (at_nodes i) t)
+    ++ counted_is names arrays texts (earlier ++ named t (number + 1) ∷ []) (before ++ t ∷ []) (number + 1) (nodes + nodes_of_task t) ts more_tasks more_nodes more_texts all_below longer i)
+    ∙ ap (λ (l : List CheckError). l ++ tasks_faults names arrays texts (before ++ t ∷ []) ts)
+    (front_out (twice_named (texts ++ map task_text before) t.name) (task_limit t.name.at (length before + 1)) (name_limit t.name.at (length texts + length before + 1)) (bytes_limit t.name) (inner_faults names arrays t) (close_faults names arrays (sum_by nodes_of_task before) t))
   where
     sum : length texts + (number + 1) ≡ length texts + length before + 1
     sum = omega (arith, at_number)
@@ -98,7 +106,7 @@ counted_is names texts earlier before number nodes (t ∷ ts) at_number at_nodes
     name =
         ap (other_bearer t.name.at (number + 1)) found
         ∙ by_bearer t.name.at (number + 1) (look_up earlier t.name.text) (found_holds (IsBelow (number + 1)) earlier below t.name.text)
-        ∙ ap (λ b. if b then TwiceNamed t.name.at ∷ [] else []) (sym (among earlier t.name.text))
+        ∙ ap (λ b. where_true b (TwiceNamed t.name.at)) (sym (among earlier t.name.text))
         ∙ ap (λ (l : List (List ℕ)). twice_named l t.name) at_texts
 
     more_tasks : number + 1 ≡ length (before ++ t ∷ [])
@@ -122,27 +130,27 @@ counted_is names texts earlier before number nodes (t ∷ ts) at_number at_nodes
     longer : names ≡ look_up ((earlier ++ named t (number + 1) ∷ []) ++ declared_tasks (number + 1 + 1) ts)
     longer = is ∙ ap look_up (sym (append_assoc earlier (named t (number + 1) ∷ []) (declared_tasks (number + 1 + 1) ts)))
 
-words_below : (n k : ℕ) (d : Decl) → IsBelow n (decl_meaning k d)
+words_below : (n : ℕ) (k : Numbers) (d : Decl) → IsBelow n (decl_meaning k d)
 words_below n k (decl.Words kind x None values) = tt
 words_below n k (decl.Words kind x (Some size) values) = tt
 words_below n k (decl.Pointer x) = tt
 words_below n k (decl.Peripheral x number) = tt
 
-decls_below : (n k : ℕ) (ds : List Decl) → AllByRecursion (λ d. IsBelow n d.1) (declared_arrays k ds)
+decls_below : (n : ℕ) (k : Numbers) (ds : List Decl) → AllByRecursion (λ d. IsBelow n d.1) (declared_words k ds)
 decls_below n k [] = tt
-decls_below n k (d ∷ ds) = (words_below n k d, decls_below n (k + 1) ds)
+decls_below n k (d ∷ ds) = (words_below n k d, decls_below n (with_decl k d) ds)
 
-texts_declared : (k : ℕ) (ds : List Decl) → texts_of (declared_arrays k ds) ≡ map decl_text ds
+texts_declared : (k : Numbers) (ds : List Decl) → texts_of (declared_words k ds) ≡ map decl_text ds
 texts_declared k [] = refl
-texts_declared k (d ∷ ds) = ap (λ (l : List (List ℕ)). decl_text d ∷ l) (texts_declared (k + 1) ds)
+texts_declared k (d ∷ ds) = ap (λ (l : List (List ℕ)). decl_text d ∷ l) (texts_declared (with_decl k d) ds)
 
 append_none : {Y : Type 0} (l : List Y) → l ++ [] ≡ l
 append_none [] = refl
 append_none (z ∷ zs) = ap (λ t. z ∷ t) (append_none zs)
 
 -- the faults of a program's tasks, by counts
-pub task_faults_are : (p : Program) → tasks_at (names_of p) (length p.decls) 0 0 p.tasks ≡ tasks_faults (names_of p) (map decl_text p.decls) [] p.tasks
-task_faults_are p =
-    ap (λ (n : ℕ). tasks_at (names_of p) n 0 0 p.tasks) (sym (length-map p.decls decl_text))
-    ∙ counted_is (names_of p) (map decl_text p.decls) (declared_arrays 0 p.decls) [] 0 0 p.tasks refl refl
-    (texts_declared 0 p.decls ∙ sym (append_none (map decl_text p.decls))) (decls_below 1 0 p.decls) refl
+pub task_faults_are : (p : Program) (arrays : List Array) → tasks_at (names_of p) arrays (length p.decls) 0 0 p.tasks ≡ tasks_faults (names_of p) arrays (map decl_text p.decls) [] p.tasks
+task_faults_are p arrays =
+    ap (λ (n : ℕ). tasks_at (names_of p) arrays n 0 0 p.tasks) (sym (length-map p.decls decl_text))
+    ∙ counted_is (names_of p) arrays (map decl_text p.decls) (declared_words none_yet p.decls) [] 0 0 p.tasks refl refl
+    (texts_declared none_yet p.decls ∙ sym (append_none (map decl_text p.decls))) (decls_below 1 none_yet p.decls) refl

@@ -6,8 +6,9 @@ use Rattle.std.specs.Cmp.Lexicographic.{bytes_decides}
 use Rattle.task_ast.specs.declared.tree.Decl.{Decl}
 use Rattle.task_ast.specs.declared.tree.Task.{Task}
 use Rattle.task_check.specs.declared.names.Meaning.{Meaning}
+use Rattle.task_check.specs.declared.names.Numbers.{Numbers}
 use Rattle.task_check.specs.declared.names.Meaning.TheVariants as meaning
-use Rattle.task_check.specs.Names.{Declared, Meanings, or_else, look_up, extended, decl_name, decl_text, decl_meaning, declared_arrays, declared_tasks}
+use Rattle.task_check.specs.Names.{Declared, Meanings, or_else, look_up, extended, decl_name, decl_text, decl_meaning, with_decl, with_decls, declared_words, declared_tasks}
 
 -- of two lists behind one another the first that has the name decides
 pub look_up-append : (ds es : List Declared) (q : List ℕ) → look_up (ds ++ es) q ≡ or_else (look_up ds q) (look_up es q)
@@ -30,9 +31,13 @@ pub extended-twice : (names : Meanings) (ds es : List Declared) → extended (ex
 extended-twice names ds es = λ i q. (or_else_assoc (names q) (look_up ds q) (look_up es q) ∙ ap (or_else (names q)) (sym (look_up-append ds es q))) i
 
 -- one more declaration
-pub declared_arrays-push : (n k : ℕ) (xs : List Decl) (d : Decl) → n + length xs ≡ k → declared_arrays n (xs ++ d ∷ []) ≡ declared_arrays n xs ++ (decl_text d, decl_meaning k d) ∷ []
-declared_arrays-push n k [] d e = let same : n ≡ k = omega arith in ap (λ (j : ℕ). (decl_text d, decl_meaning j d) ∷ []) same
-declared_arrays-push n k (x ∷ xs) d e = ap (λ (ds : List Declared). (decl_text x, decl_meaning n x) ∷ ds) (declared_arrays-push (n + 1) k xs d (omega arith))
+pub declared_words-push : (n : Numbers) (xs : List Decl) (d : Decl) → declared_words n (xs ++ d ∷ []) ≡ declared_words n xs ++ (decl_text d, decl_meaning (with_decls n xs) d) ∷ []
+declared_words-push n [] d = refl
+declared_words-push n (x ∷ xs) d = ap (λ (ds : List Declared). (decl_text x, decl_meaning n x) ∷ ds) (declared_words-push (with_decl n x) xs d)
+
+pub with_decls-push : (n : Numbers) (xs : List Decl) (d : Decl) → with_decls n (xs ++ d ∷ []) ≡ with_decl (with_decls n xs) d
+with_decls-push n [] d = refl
+with_decls-push n (x ∷ xs) d = with_decls-push (with_decl n x) xs d
 
 -- one more task
 pub declared_tasks-push : (n k : ℕ) (xs : List Task) (t : Task) → n + length xs ≡ k → declared_tasks n (xs ++ t ∷ []) ≡ declared_tasks n xs ++ (t.name.text, meaning.Task k) ∷ []
@@ -40,11 +45,11 @@ declared_tasks-push n k [] t e = let same : n ≡ k = omega arith in ap (λ (j :
 declared_tasks-push n k (x ∷ xs) t e = ap (λ (ds : List Declared). (x.name.text, meaning.Task n) ∷ ds) (declared_tasks-push (n + 1) k xs t (omega arith))
 
 -- a text is among the names of declarations exactly where it is found
-pub among_declared : (n : ℕ) (xs : List Decl) (q : List ℕ) → list_any (bytes_eq q) (map decl_text xs) ≡ is_some (look_up (declared_arrays n xs) q)
+pub among_declared : (n : Numbers) (xs : List Decl) (q : List ℕ) → list_any (bytes_eq q) (map decl_text xs) ≡ is_some (look_up (declared_words n xs) q)
 among_declared n [] q = refl
-among_declared n (x ∷ xs) q = by (bytes_eq q (decl_name x).text) (among_declared (n + 1) xs q)
+among_declared n (x ∷ xs) q = by (bytes_eq q (decl_name x).text) (among_declared (with_decl n x) xs q)
   where
-    by : (b : Bool) → list_any (bytes_eq q) (map decl_text xs) ≡ is_some (look_up (declared_arrays (n + 1) xs) q) → (b || list_any (bytes_eq q) (map decl_text xs)) ≡ is_some (if b then Some (decl_meaning n x) else look_up (declared_arrays (n + 1) xs) q)
+    by : (b : Bool) → list_any (bytes_eq q) (map decl_text xs) ≡ is_some (look_up (declared_words (with_decl n x) xs) q) → (b || list_any (bytes_eq q) (map decl_text xs)) ≡ is_some (if b then Some (decl_meaning n x) else look_up (declared_words (with_decl n x) xs) q)
     by true h = refl
     by false h = h
 

@@ -21,11 +21,18 @@ use Rattle.task_ast.specs.declared.tree.Decl.TheVariants as decl
 use Rattle.task_ast.specs.declared.tree.Task.{Task}
 use Rattle.task_ast.specs.declared.tree.Program.{Program}
 use Rattle.task_ast.specs.declared.core_form.CoreExpr.TheVariants as core
+use Rattle.task_ast.specs.declared.core_form.CoreTarget.TheVariants as core_target
+use Rattle.task_ast.specs.declared.core_form.CoreEnd.TheVariants as core_end
+use Rattle.task_ast.specs.declared.core_form.CoreStmt.{CoreStmt}
 use Rattle.task_ast.specs.declared.core_form.CoreStmt.TheVariants as core_stmt
+use Rattle.task_ast.specs.declared.core_form.CoreStmt.TheBlock.{hidden-the_row-CoreStmt-0, shape-the_row-CoreStmt-0}
+use Rattle.task_ast.specs.declared.core_form.Site.TheVariants as site
+use Rattle.task_ast.specs.declared.tree.Ann.TheVariants.{Single, Always}
+use Rattle.task_ast.specs.declared.tree.Place.TheVariants as place
 use Rattle.task_ast.specs.declared.core_form.CoreExit.TheVariants as core_exit
 use denote.Hole.Carrier.{hidden}
-use Rattle.task_check.specs.declared.error.CheckError.TheVariants.{UnknownName, TwiceNamed, WrongKind, ConstWritten, TooMany, LimitReached}
-use Rattle.task_check.specs.declared.error.Limit.TheVariants.{NvWords, VolWords, Length, Turns, Loops}
+use Rattle.task_check.specs.declared.error.CheckError.TheVariants.{UnknownName, TwiceNamed, WrongKind, ConstWritten, DmaUnderIf, TooMany, LimitReached}
+use Rattle.task_check.specs.declared.error.Limit.TheVariants.{NvWords, VolWords, Length, PeripheralNumber, Turns, Loops, Sites}
 use Rattle.task_check.specs.declared.names.Meaning.TheVariants as meaning
 use Rattle.task_check.specs.Names.{declared}
 use Rattle.task_check.specs.Faults.{faults, first_fault, Accepted}
@@ -85,7 +92,7 @@ counter_core : core_of counter ≡ record {
   peripherals = [];
   tasks = record {
     name = 97 ∷ [];
-    body = core_stmt.Assign 0 (core.Number 0) (core.Two Add (core.Cell 0 (core.Number 0)) (core.Number 1)) ∷ [];
+    body = core_stmt.Assign (core_target.Cell 0 (core.Number 0)) (core.Two Add (core.Cell 0 (core.Number 0)) (core.Number 1)) ∷ [];
     exit = core_exit.Stop;
     sites = [];
   } ∷ [];
@@ -222,9 +229,133 @@ nodes_counted = refl
 loop_core : (core_of (record { decls = decls_of_four; tasks = task (t 5) (stmt.If (expr.Read (y 10)) (for 11 (i 12) 3 (stmt.Assign (target.Element (x 14) (expr.Read (i 15))) (expr.Paren (expr.Read (y 16))) ∷ []) ∷ []) [] ∷ []) exit.Stop ∷ [] })).tasks
     ≡ record {
       name = 116 ∷ [];
-      body = core_stmt.If (core.Cell 1 (core.Number 0)) (core_stmt.Loop 0 3 (core_stmt.Assign 3 (core.Cell 0 (core.Number 0)) (core.Cell 1 (core.Number 0)) ∷ []) ∷ []) [] ∷ [];
+      body = core_stmt.If (core.Cell 1 (core.Number 0)) (core_stmt.Loop 0 3 (core_stmt.Assign (core_target.Cell 3 (core.Cell 0 (core.Number 0))) (core.Cell 1 (core.Number 0)) ∷ []) ∷ []) [] ∷ [];
       exit = core_exit.Stop;
       sites = [];
     } ∷ []
-unfolding core_of hidden-the_row-Expr-0 shape-the_row-Expr-0 hidden-the_row-Stmt-0 shape-the_row-Stmt-0 hidden
+unfolding core_of hidden-the_row-Expr-0 shape-the_row-Expr-0 hidden-the_row-Stmt-0 shape-the_row-Stmt-0 hidden-the_row-CoreStmt-0 hidden
 loop_core = refl
+
+-- `peripheral NAME NUMBER;` and `word *NAME;`
+abbrev device : Name → ℕ → Decl
+device n number = decl.Peripheral n number
+
+-- `p` as a name
+abbrev p : ℕ → Name
+p column = record { text = 112 ∷ []; at = at column }
+
+-- `IO(p, SINGLE);` with the name behind the word
+abbrev call : ℕ → Stmt
+call column = stmt.Io None (p (column + 1)) Single [] (at column)
+
+-- `peripheral p 7; peripheral x 7; peripheral y 256;`: a number twice, and one that is too high
+numbers_of_peripherals : faults_in (device (p 1) 7 ∷ device (x 2) 7 ∷ device (y 3) 256 ∷ []) [] ≡ TwiceNamed (at 2) ∷ LimitReached (at 3) PeripheralNumber 256 ∷ []
+unfolding faults
+numbers_of_peripherals = refl
+
+-- `word *p; const nv word y; peripheral x 0;` are numbered apart
+kinds_apart : declared (record { decls = decl.Pointer (p 1) ∷ decl.Words Const (y 2) None [] ∷ device (x 3) 0 ∷ decl.Words Vol (a 4) (Some 2) [] ∷ []; tasks = [] })
+    ≡ (112 ∷ [], meaning.Pointer 0) ∷ (121 ∷ [], meaning.Scalar 0 Const) ∷ (120 ∷ [], meaning.Peripheral 0) ∷ (97 ∷ [], meaning.Array 1 Vol) ∷ []
+kinds_apart = refl
+
+-- `word *p; const nv word y[1]; word x[3]; word i; peripheral a 0;`
+abbrev decls_of_five : List Decl
+decls_of_five = decl.Pointer (p 1) ∷ decl.Words Const (y 2) (Some 1) [] ∷ decl.Words Vol (x 3) (Some 3) [] ∷ decl.Words Vol (i 4) None [] ∷ device (a 5) 0 ∷ []
+
+-- `NAME[0]` and `&NAME[0]`
+abbrev zero_at : ℕ → Expr
+zero_at column = expr.Number 0 (at column)
+
+-- `p[0] = 1; p = &y[0];`: the address counts wherever it is given
+through_a_constant : faults_in decls_of_five (stmt.Assign (target.Element (p 10) (zero_at 11)) (zero_at 12) ∷ stmt.Point (p 13) (place.Element (y 14) (zero_at 15)) ∷ []) ≡ ConstWritten (at 10) ∷ []
+unfolding faults hidden-the_row-Stmt-0 shape-the_row-Stmt-0 hidden-the_row-Expr-0 shape-the_row-Expr-0 hidden
+through_a_constant = refl
+
+-- `for (i ..) { p[0] = 1; p = &i; }`: through a pointer a loop's variable isn't written inside the loop, and behind it is
+through_a_variable : faults_in decls_of_five (for 10 (i 11) 4 (stmt.Assign (target.Element (p 13) (zero_at 14)) (zero_at 15) ∷ stmt.Point (p 16) (place.Scalar (i 17)) ∷ []) ∷ stmt.Assign (target.Element (p 20) (zero_at 21)) (zero_at 22) ∷ []) ≡ WrongKind (at 13) ∷ []
+unfolding faults hidden-the_row-Stmt-0 shape-the_row-Stmt-0 hidden-the_row-Expr-0 shape-the_row-Expr-0 hidden-the_row-CoreStmt-0 hidden
+through_a_variable = refl
+
+-- `p = &y; x = p; DMA(i, &x, 1); DMA(y, &p[0], 1);`: an array behind `&`, a pointer that is read, a bare scalar as an end, an
+-- array behind `&` as an end, a constant destination, a pointer indexed behind `&`
+wrong_ends : faults_in decls_of_five (
+    stmt.Point (p 10) (place.Scalar (y 11)) ∷ assign (i 12) (expr.Read (p 13))
+    ∷ stmt.Dma (place.Bare (i 15)) (place.Scalar (x 16)) (zero_at 17) (at 14)
+    ∷ stmt.Dma (place.Bare (y 19)) (place.Element (p 20) (zero_at 21)) (zero_at 22) (at 18) ∷ [])
+    ≡ WrongKind (at 11) ∷ WrongKind (at 13) ∷ WrongKind (at 15) ∷ WrongKind (at 16) ∷ ConstWritten (at 19) ∷ WrongKind (at 20) ∷ []
+unfolding faults hidden-the_row-Stmt-0 shape-the_row-Stmt-0 hidden-the_row-Expr-0 shape-the_row-Expr-0 hidden
+wrong_ends = refl
+
+-- `if (0) { IO_BLOCK(ALWAYS) { DMA(x, x, 0); } }`: a copy under an `if`, also in a block; a fifth argument
+copies_and_arguments : faults_in decls_of_five (
+    stmt.If (zero_at 10) (stmt.Block Always (stmt.Dma (place.Bare (x 13)) (place.Bare (x 14)) (zero_at 15) (at 12) ∷ []) (at 11) ∷ []) []
+    ∷ stmt.Io None (a 21) Single (zero_at 22 ∷ zero_at 23 ∷ zero_at 24 ∷ zero_at 25 ∷ zero_at 26 ∷ []) (at 20) ∷ [])
+    ≡ DmaUnderIf (at 12) ∷ TooMany (at 20) ∷ []
+unfolding faults hidden-the_row-Stmt-0 shape-the_row-Stmt-0 hidden-the_row-Expr-0 shape-the_row-Expr-0 hidden
+copies_and_arguments = refl
+
+-- `word i; peripheral p 0;`
+abbrev decls_of_sites : List Decl
+decls_of_sites = decl.Words Vol (i 1) None [] ∷ device (p 2) 0 ∷ []
+
+-- `for (i = 0; i < TURNS; i++) { IO(p, SINGLE); IO(p, SINGLE); } IO(p, SINGLE);`
+abbrev calls : ℕ → List Stmt
+calls turns = for 10 (i 11) turns (call 13 ∷ call 15 ∷ []) ∷ call 17 ∷ []
+
+-- 129 sites are one too many, and 65 turns of an unrolled loop too, whose sites are 131
+sites_pass : faults_in decls_of_sites (calls 64) ≡ LimitReached (at 99) Sites 129 ∷ []
+unfolding faults hidden-the_row-Stmt-0 shape-the_row-Stmt-0 hidden
+sites_pass = refl
+
+turns_of_sites : faults_in decls_of_sites (calls 65) ≡ LimitReached (at 12) Turns 65 ∷ LimitReached (at 99) Sites 131 ∷ []
+unfolding faults hidden-the_row-Stmt-0 shape-the_row-Stmt-0 hidden
+turns_of_sites = refl
+
+-- `for (i = 0; i < 2; i++) { IO_BLOCK(ALWAYS) { i = IO(p, SINGLE, i); } } DMA(..)` but for its being refused: the loop's turns one after
+-- another, its variable set before each turn and behind the last, and the sites numbered through
+abbrev looped : List Stmt
+looped = for 10 (i 11) 2 (stmt.Block Always (stmt.Io None (p 14) Single (expr.Read (i 15) ∷ []) (at 13) ∷ []) (at 12) ∷ []) ∷ call 20 ∷ []
+
+abbrev set : ℕ → CoreStmt
+set n = core_stmt.Assign (core_target.Cell 0 (core.Number 0)) (core.Number n)
+
+abbrev block_of : ℕ → CoreStmt
+block_of k = core_stmt.Block k (core_stmt.Io (k + 1) None 0 (core.Cell 0 (core.Number 0) ∷ []) ∷ [])
+
+unrolled_core : (core_of (record { decls = decls_of_sites; tasks = task (t 5) looped exit.Stop ∷ [] })).tasks
+    ≡ record {
+      name = 116 ∷ [];
+      body = set 0 ∷ block_of 1 ∷ set 1 ∷ block_of 3 ∷ set 2 ∷ core_stmt.Io 5 None 0 [] ∷ [];
+      exit = core_exit.Stop;
+      sites = site.Block Always ∷ site.Io Single ∷ site.Block Always ∷ site.Io Single ∷ site.Io Single ∷ [];
+    } ∷ []
+unfolding core_of hidden-the_row-Expr-0 shape-the_row-Expr-0 hidden-the_row-Stmt-0 shape-the_row-Stmt-0 hidden-the_row-CoreStmt-0 shape-the_row-CoreStmt-0 hidden
+unrolled_core = refl
+
+-- its nodes: twice a block, a call and its argument, three settings, a call, and the exit
+unrolled_nodes : nodes_of_task (task (t 5) looped exit.Stop) ≡ 17
+unfolding hidden-the_row-Expr-0 shape-the_row-Expr-0 hidden-the_row-Stmt-0 shape-the_row-Stmt-0 hidden
+unrolled_nodes = refl
+
+-- a loop of no turns sets its variable, whatever its body has
+no_turns : (core_of (record { decls = decls_of_sites; tasks = task (t 5) (for 10 (i 11) 0 (call 13 ∷ []) ∷ []) exit.Stop ∷ [] })).tasks
+    ≡ record { name = 116 ∷ []; body = set 0 ∷ []; exit = core_exit.Stop; sites = [] } ∷ []
+unfolding core_of hidden-the_row-Stmt-0 shape-the_row-Stmt-0 hidden
+no_turns = refl
+
+-- `p = &x[0]; p = &y[0]; DMA(p, y, 1);`: the greatest length is the lesser of the two ends' longest arrays
+copied_core : (core_of (record {
+  decls = decls_of_five;
+  tasks = task (t 6) (
+      stmt.Point (p 10) (place.Element (x 11) (zero_at 12)) ∷ stmt.Dma (place.Bare (x 13)) (place.Bare (p 14)) (zero_at 15) (at 12)
+      ∷ stmt.Dma (place.Bare (x 16)) (place.Bare (y 17)) (zero_at 18) (at 15) ∷ []) exit.Stop ∷ [];
+})).tasks
+    ≡ record {
+      name = 116 ∷ [];
+      body = core_stmt.Point 0 1 (core.Number 0) ∷ core_stmt.Copy 1 (core_end.Cell 1 (core.Number 0)) (core_end.Pointer 0) (core.Number 0)
+          ∷ core_stmt.Copy 2 (core_end.Cell 1 (core.Number 0)) (core_end.Cell 0 (core.Number 0)) (core.Number 0) ∷ [];
+      exit = core_exit.Stop;
+      sites = site.Copy 3 ∷ site.Copy 1 ∷ [];
+    } ∷ []
+unfolding core_of hidden-the_row-Expr-0 shape-the_row-Expr-0 hidden-the_row-Stmt-0 shape-the_row-Stmt-0 hidden
+copied_core = refl

@@ -1,6 +1,5 @@
 -- The names of a program, and what each of them stands for.
 use Rattle.std.specs.Prelude.{ℕ, ◌+◌, List, [], ◌∷◌, ◌++◌, Option, None, Some, if◌then◌else◌, bytes_eq}
-use Rattle.task_ast.specs.declared.tree.Kind.TheVariants.{Nv}
 use Rattle.task_ast.specs.declared.tree.Name.{Name}
 use Rattle.task_ast.specs.declared.tree.Decl.{Decl}
 use Rattle.task_ast.specs.declared.tree.Decl.TheVariants.{Words, Pointer, Peripheral}
@@ -8,6 +7,7 @@ use Rattle.task_ast.specs.declared.tree.Task.{Task}
 use Rattle.task_ast.specs.declared.tree.Program.{Program}
 use Rattle.task_check.specs.declared.names.Meaning.{Meaning}
 use Rattle.task_check.specs.declared.names.Meaning.TheVariants as meaning
+use Rattle.task_check.specs.declared.names.Numbers.{Numbers}
 
 -- a declared name and what it stands for
 abbrev pub Declared : Type 0
@@ -44,37 +44,87 @@ decl_text d = (decl_name d).text
 abbrev pub task_text : Task → List ℕ
 task_text t = t.name.text
 
--- what the declaration of the array of this number declares: without brackets a scalar; today's are of words
-abbrev pub decl_meaning : ℕ → Decl → Meaning
-decl_meaning n (Words kind x None values) = meaning.Scalar n kind
-decl_meaning n (Words kind x (Some size) values) = meaning.Array n kind
-decl_meaning n _ = meaning.Scalar n Nv
+-- no arrays, pointers and peripherals yet
+abbrev pub none_yet : Numbers
+none_yet = record { arrays = 0; pointers = 0; peripherals = 0 }
 
--- declarations in order declare arrays with these numbers upward
-abbrev pub declared_arrays : ℕ → List Decl → List Declared
-declared_arrays n [] = []
-declared_arrays n (d ∷ ds) = (decl_text d, decl_meaning n d) ∷ declared_arrays (n + 1) ds
+-- what a declaration declares behind so many arrays, pointers and peripherals; words without brackets are a scalar
+abbrev pub decl_meaning : Numbers → Decl → Meaning
+decl_meaning n (Words kind x None values) = meaning.Scalar n.arrays kind
+decl_meaning n (Words kind x (Some size) values) = meaning.Array n.arrays kind
+decl_meaning n (Pointer x) = meaning.Pointer n.pointers
+decl_meaning n (Peripheral x number) = meaning.Peripheral n.peripherals
+
+-- so many arrays, pointers and peripherals, and a declaration behind them
+abbrev pub with_decl : Numbers → Decl → Numbers
+with_decl n (Words kind x size values) = record { arrays = n.arrays + 1; pointers = n.pointers; peripherals = n.peripherals }
+with_decl n (Pointer x) = record { arrays = n.arrays; pointers = n.pointers + 1; peripherals = n.peripherals }
+with_decl n (Peripheral x number) = record { arrays = n.arrays; pointers = n.pointers; peripherals = n.peripherals + 1 }
+
+-- the same with declarations behind them, one after another
+abbrev pub with_decls : Numbers → List Decl → Numbers
+with_decls n [] = n
+with_decls n (d ∷ ds) = with_decls (with_decl n d) ds
+
+-- declarations in order declare their names, each kind numbered for itself
+abbrev pub declared_words : Numbers → List Decl → List Declared
+declared_words n [] = []
+declared_words n (d ∷ ds) = (decl_text d, decl_meaning n d) ∷ declared_words (with_decl n d) ds
 
 -- tasks in order declare their names with these numbers upward
 abbrev pub declared_tasks : ℕ → List Task → List Declared
 declared_tasks n [] = []
 declared_tasks n (t ∷ ts) = (task_text t, meaning.Task n) ∷ declared_tasks (n + 1) ts
 
--- the declared names in text order: arrays are numbered from 0, tasks from 1
+-- the declared names in text order: arrays, pointers and peripherals are numbered from 0, tasks from 1
 abbrev pub declared : Program → List Declared
-declared p = declared_arrays 0 p.decls ++ declared_tasks 1 p.tasks
+declared p = declared_words none_yet p.decls ++ declared_tasks 1 p.tasks
 
 -- what the names of a program stand for, in all its tasks
 abbrev pub names_of : Program → Meanings
 names_of p = look_up (declared p)
 
--- the number of the array that a name stands for; 0 where it stands for none
+-- a number, or 0 in the place of none
+abbrev pub or_zero : Option ℕ → ℕ
+or_zero None = 0
+or_zero (Some n) = n
+
+-- the number of the array that a name stands for, if it stands for one
+abbrev pub array_of : Option Meaning → Option ℕ
+array_of None = None
+array_of (Some (meaning.Scalar a kind)) = Some a
+array_of (Some (meaning.Array a kind)) = Some a
+array_of (Some (meaning.Pointer p)) = None
+array_of (Some (meaning.Peripheral p)) = None
+array_of (Some (meaning.Task t)) = None
+
+-- the same; 0 where it stands for none
 abbrev pub array_number : Option Meaning → ℕ
-array_number (Some (meaning.Scalar a kind)) = a
-array_number (Some (meaning.Array a kind)) = a
-array_number _ = 0
+array_number m = or_zero (array_of m)
+
+-- the number of the pointer that a name stands for, if it stands for one
+abbrev pub pointer_of : Option Meaning → Option ℕ
+pointer_of None = None
+pointer_of (Some (meaning.Scalar a kind)) = None
+pointer_of (Some (meaning.Array a kind)) = None
+pointer_of (Some (meaning.Pointer p)) = Some p
+pointer_of (Some (meaning.Peripheral p)) = None
+pointer_of (Some (meaning.Task t)) = None
+
+-- the number of the peripheral that a name stands for; 0 where it stands for none
+abbrev pub peripheral_number : Option Meaning → ℕ
+peripheral_number None = 0
+peripheral_number (Some (meaning.Scalar a kind)) = 0
+peripheral_number (Some (meaning.Array a kind)) = 0
+peripheral_number (Some (meaning.Pointer p)) = 0
+peripheral_number (Some (meaning.Peripheral p)) = p
+peripheral_number (Some (meaning.Task t)) = 0
 
 -- the number of the task that a name stands for; 0 where it stands for none
 abbrev pub task_number : Option Meaning → ℕ
+task_number None = 0
+task_number (Some (meaning.Scalar a kind)) = 0
+task_number (Some (meaning.Array a kind)) = 0
+task_number (Some (meaning.Pointer p)) = 0
+task_number (Some (meaning.Peripheral p)) = 0
 task_number (Some (meaning.Task t)) = t
-task_number _ = 0

@@ -1,6 +1,6 @@
 //! The table of declared names: what each name stands for.
 ghost use Rattle.std.specs.Prelude.{◌≡◌, ◌∷◌, [], ◌≤◌, ◌^◌, IfOk, IfErr, OnOk, None, is_none};
-ghost use Rattle.task_check.specs.Names.{extended};
+ghost use Rattle.task_check.specs.Names.{array_number as number_of, array_of as named_array, extended, peripheral_number as number_of_peripheral, pointer_of as named_pointer, task_number as number_of_task};
 ghost use Rattle.task_check.specs.Table.{meanings};
 
 use ease_base::NoMemory;
@@ -9,14 +9,78 @@ use std::alloc::Global;
 use task_ast::Kind;
 
 /// What a declared name stands for.
-#[derive(Clone, Copy, Debug, PartialEq, Eq)]
+#[derive(Clone, Copy)]
 pub enum Meaning {
     /// A scalar: the number of its array, from 0, and its kind.
     Scalar(u32, Kind),
     /// An array: its number, from 0, and its kind.
     Array(u32, Kind),
+    /// A pointer: its number, from 0.
+    Pointer(u32),
+    /// A peripheral: its number, from 0, in the order of declarations.
+    Peripheral(u32),
     /// A task: its number, from 1.
     Task(u32),
+}
+
+/// The number of the array that a name stands for, if it stands for one.
+pub fn array_of(m: Option<Meaning>) -> Option<u32>
+    ensures { result ≡ named_array m }
+{
+    match m {
+        Some(Meaning::Scalar(array, _) | Meaning::Array(array, _)) => Some(array),
+        Some(Meaning::Pointer(_) | Meaning::Peripheral(_) | Meaning::Task(_)) | None => None,
+    }
+}
+
+/// The same; 0 where it stands for none.
+pub fn array_number(m: Option<Meaning>) -> u32
+    ensures { result ≡ number_of m }
+{
+    array_of(m).unwrap_or(0)
+}
+
+/// The number of the pointer that a name stands for, if it stands for one.
+pub fn pointer_of(m: Option<Meaning>) -> Option<u32>
+    ensures { result ≡ named_pointer m }
+{
+    match m {
+        Some(Meaning::Pointer(pointer)) => Some(pointer),
+        Some(Meaning::Scalar(..) | Meaning::Array(..) | Meaning::Peripheral(_) | Meaning::Task(_))
+        | None => None,
+    }
+}
+
+/// The number of the peripheral that a name stands for; 0 where it stands for none.
+pub fn peripheral_number(m: Option<Meaning>) -> u32
+    ensures { result ≡ number_of_peripheral m }
+{
+    match m {
+        Some(Meaning::Peripheral(peripheral)) => peripheral,
+        Some(Meaning::Scalar(..) | Meaning::Array(..) | Meaning::Pointer(_) | Meaning::Task(_))
+        | None => 0,
+    }
+}
+
+/// The number of the task that a name stands for; 0 where it stands for none.
+pub fn task_number(m: Option<Meaning>) -> u32
+    ensures { result ≡ number_of_task m }
+{
+    match m {
+        Some(Meaning::Task(task)) => task,
+        Some(
+            Meaning::Scalar(..) | Meaning::Array(..) | Meaning::Pointer(_) | Meaning::Peripheral(_),
+        )
+        | None => 0,
+    }
+}
+
+/// How many arrays, pointers and peripherals are declared before a place.
+#[derive(Clone, Copy)]
+pub struct Numbers {
+    pub arrays: u32,
+    pub pointers: u32,
+    pub peripherals: u32,
 }
 
 /// Names in the order of their first declarations.

@@ -1,15 +1,14 @@
-//! The check of a whole program.
+//! The check of a whole program: first its faults alone, then, where it has none, its checked form.
 ghost use Rattle.std.specs.Prelude.{◌≡◌, ◌≢◌, Some, IfOk, IfErr};
 ghost use Rattle.task_ast.specs.Readable.{IsReadable};
 ghost use Rattle.task_ast.specs.WellFormed.{IsWellFormed};
 ghost use Rattle.task_check.specs.CheckedForm.{core_of};
 ghost use Rattle.task_check.specs.Faults.{Accepted, first_fault};
 
-use crate::arrays::arrays;
-use crate::declarations::{declare_arrays, declare_tasks};
+use crate::arrays::{arrays, peripherals, pointers};
+use crate::declarations::{declare_tasks, declare_words};
 use crate::error::CheckError;
-use crate::tasks::check_tasks;
-use ease_base::List;
+use crate::tasks::{check_tasks, form_tasks};
 use std::alloc::Global;
 use task_ast::{Core, Program};
 
@@ -22,14 +21,22 @@ pub fn check(alloc: Global, p: &Program) -> Result<Core, CheckError>
     ensures refused { IfErr result (λ e. e ≢ CheckError.NoMemory → first_fault p.now ≡ Some e) }
     ensures well_formed { IfOk result IsWellFormed }
 {
-    let mut names = declare_arrays(alloc, p.decls.as_slice())?;
+    let decls = p.decls.as_slice();
+    let mut names = declare_words(alloc, decls)?;
     declare_tasks(&mut names, p.tasks.as_slice())?;
-    let tasks = check_tasks(alloc, &names, p.decls.len(), p.tasks.as_slice())?;
-    let arrays = arrays(alloc, p.decls.as_slice())?;
+    let arrays = arrays(alloc, decls)?;
+    check_tasks(
+        alloc,
+        &names,
+        arrays.as_slice(),
+        decls.len(),
+        p.tasks.as_slice(),
+    )?;
+    let tasks = form_tasks(alloc, &names, arrays.as_slice(), p.tasks.as_slice())?;
     Ok(Core {
+        pointers: pointers(alloc, decls)?,
+        peripherals: peripherals(alloc, decls)?,
         arrays,
-        pointers: List::new(alloc),
-        peripherals: List::new(alloc),
         tasks,
     })
 }

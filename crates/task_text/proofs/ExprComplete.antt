@@ -6,18 +6,20 @@ use Rattle.task_ast.specs.declared.tree.Name.{Name}
 use Rattle.task_ast.specs.declared.tree.Op1.{Op1}
 use Rattle.task_ast.specs.declared.tree.Op2.{Op2}
 use Rattle.task_ast.specs.declared.tree.Op2.TheVariants as op
-use Rattle.task_ast.specs.declared.tree.Expr.{Expr}
+use Rattle.task_ast.specs.declared.tree.Expr.{Expr, end_of-Expr, more_of-Expr}
 use Rattle.task_ast.specs.declared.tree.Expr.TheVariants as expr
 use Rattle.task_ast.specs.declared.tree.Expr.TheBlock.{hidden-the_row-Expr-0, shape-the_row-Expr-0}
 use denote.Hole.Carrier.{hidden}
 use Rattle.task_ast.specs.Expressions.{HoldsByParts, for_every}
 use Rattle.task_ast.specs.Readable.{depth, deepest}
-use Rattle.task_text.specs.declared.token.Sign.TheVariants as sign
-use Rattle.task_text.specs.declared.token.Token.{Token}
+use Rattle.task_tokens.specs.declared.token.Sign.TheVariants as sign
+use Rattle.task_tokens.specs.declared.token.Token.{Token}
 use Rattle.task_text.specs.declared.expr.Deep.{Deep}
-use Rattle.task_text.specs.Grammar.{symbol, number, name, sign_of, binds, prefix_of, prefix_binds, IsParenthesized, IsBracketed, IsExpr, IsValue}
+use Rattle.task_text.specs.Forms.{symbol, number, name}
+use Rattle.task_text.specs.Grammar.{sign_of, binds, prefix_of, prefix_binds, IsParenthesized, IsBracketed, IsExpr, IsValue}
 use Rattle.task_text.specs.Reading.{Outcome, found, between, begins_sign, name_at, number_at}
 use Rattle.task_text.specs.ReadingExpr.{joined, begins_prefix, begins_operator, literal_at, behind_name, named_of, paren_of, prefixed_of, part_of, expr_at, value_at, is_there}
+use Rattle.task_text.proofs.Starts.{Starts, IsReadBefore}
 use Rattle.task_text.proofs.Offs.{bind-at, between-complete}
 use Rattle.task_text.proofs.OperatorLaws.{sign-unary, operator-complete, prefix-complete, begins-tight, begins-loose, begins-looser, begins-none, binds-below}
 use Rattle.task_text.proofs.Terms.{Terms, Terms-none, Terms-more, Terms-all}
@@ -194,6 +196,33 @@ two-read o e f r s n low level tokens rest h a b deep stops ends =
 read-by-parts : HoldsByParts IsRead
 read-by-parts = record { number = number-read; read = scalar-read; index = index-read; paren = paren-read; one = one-read; two = two-read }
 
--- an expression of allowed depth is read, where no operator and no bracket follows
-pub value-complete : (e : Expr) (tokens rest : List Token) → IsValue e tokens → begins_operator 0 rest ≡ false → begins_sign sign.BracketOpen rest ≡ false → value_at (tokens ++ rest) ≡ found (measured e) rest
-value-complete e tokens rest h stops ends = whole-read e (for_every IsRead read-by-parts e) deepest 0 tokens rest h.0 (omega arith) h.1 stops ends
+-- what an expression begins with
+pub record Heads (G : List Token → Type 0) : Type 0 where
+  pub number : (n : ℕ) (at : Pos) (us : List Token) → G (number n at ∷ us)
+  pub named : (x : Name) (us : List Token) → G (name x ∷ us)
+  pub paren : (at : Pos) (us : List Token) → G (symbol sign.ParenOpen at ∷ us)
+  pub prefix : (o : Op1) (at : Pos) (us : List Token) → G (symbol (prefix_of o) at ∷ us)
+
+expr-starts : (G : List Token → Type 0) → Heads G → (e : Expr) (level : ℕ) (front rest : List Token) → IsExpr e level front → G (front ++ rest)
+expr-starts G h (expr.Number n at) level front rest is = subst (λ ts. G (ts ++ rest)) (sym is) (h.number n at rest)
+expr-starts G h (expr.Read x) level front rest is = subst (λ ts. G (ts ++ rest)) (sym is) (h.named x rest)
+expr-starts G h (expr.Index' x u (more_of-Expr i end_of-Expr)) level front rest is = subst (λ ts. G (ts ++ rest)) (sym is.1) (h.named x (is.0 ++ rest))
+expr-starts G h (expr.Paren' u (more_of-Expr e end_of-Expr)) level front rest is = subst (λ ts. G (ts ++ rest)) (sym is.whole) (h.paren is.at_first _)
+expr-starts G h (expr.One' o u (more_of-Expr e end_of-Expr)) level front rest is = subst (λ ts. G (ts ++ rest)) (sym is.2) (h.prefix o is.0 (is.1 ++ rest))
+expr-starts G h (expr.Two' o u (more_of-Expr a end_of-Expr) v (more_of-Expr b end_of-Expr)) level front rest is =
+    let right = symbol (sign_of o) is.0 ∷ is.2 in
+    subst G (sym (ap (λ ts. ts ++ rest) is.3 ∙ append_assoc is.1 right rest)) (expr-starts G h a (binds o) is.1 (right ++ rest) is.5)
+
+pub value-starts : {G : List Token → Type 0} → Heads G → Starts G IsValue
+value-starts {G} h = record { so = λ e front rest is. expr-starts G h e 0 front rest is.0 }
+
+-- no operator goes on here, and no index
+abbrev pub NoOperator : List Token → Type 0
+NoOperator rest = (begins_operator 0 rest ≡ false) × (begins_sign sign.BracketOpen rest ≡ false)
+
+-- an expression of allowed depth is read, where none does
+pub value-complete : IsReadBefore NoOperator IsValue value_at
+unfolding value_at
+value-complete = record {
+  reads = λ e front rest h safe. bind-at _ _ (measured e) rest (whole-read e (for_every IsRead read-by-parts e) deepest 0 front rest h.0 (omega arith) h.1 safe.0 safe.1);
+}

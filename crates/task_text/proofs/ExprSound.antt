@@ -11,10 +11,11 @@ use Rattle.task_ast.specs.declared.tree.Expr.TheVariants as expr
 use Rattle.task_ast.specs.declared.tree.Expr.TheBlock.{hidden-the_row-Expr-0, shape-the_row-Expr-0}
 use denote.Hole.Carrier.{hidden}
 use Rattle.task_ast.specs.Readable.{depth, deepest}
-use Rattle.task_text.specs.declared.token.Sign.TheVariants as sign
-use Rattle.task_text.specs.declared.token.Token.{Token}
+use Rattle.task_tokens.specs.declared.token.Sign.TheVariants as sign
+use Rattle.task_tokens.specs.declared.token.Token.{Token}
 use Rattle.task_text.specs.declared.expr.Deep.{Deep}
-use Rattle.task_text.specs.Grammar.{symbol, name, number, sign_of, binds, prefix_of, prefix_binds, IsParenthesized, IsBracketed, IsExpr, IsValue}
+use Rattle.task_text.specs.Forms.{symbol, name, number}
+use Rattle.task_text.specs.Grammar.{sign_of, binds, prefix_of, prefix_binds, IsParenthesized, IsBracketed, IsExpr, IsValue}
 use Rattle.task_text.specs.Reading.{Found, Outcome, found, ◌>>=◌, between, begins_sign, begins_name, name_at, number_at}
 use Rattle.task_text.specs.ReadingExpr.{scalar, joined, begins_prefix, begins_operator, operator_at, prefix_at, literal_at, behind_name, named_of, paren_of, prefixed_of, part_of, joined_from, expr_at, value_at}
 use Rattle.task_text.proofs.TokenLaws.{not_found, same_found, bind_found, name-sound, number-sound}
@@ -229,11 +230,10 @@ unfolding expr_at
 expr-sound zero level low ts us d h = absurd (not_found d us ts h)
 expr-sound (suc n) level low ts us d h = parts-sound n (expr_at n) (expr-sound n) level low ts us d h
 
-abbrev pub Values : Deep → List Token → Type 0
-Values d tokens = IsValue d.expr tokens
-
-pub value-sound : IsSound Values value_at
-value-sound ts us d h =
-    let r = (expr-sound deepest 0 (omega arith) ts us d h).off in
+pub value-sound : IsSound IsValue value_at
+unfolding value_at
+value-sound ts us e h =
+    let d = bind_found (expr_at deepest 0 ts) _ e us h in
+    let r = (expr-sound deepest 0 (omega arith) ts d.0.rest d.0.value d.1).off in
     let f = r.fits in
-    record { front = r.front; split = r.split; fits = (f.fits 0 (omega arith), omega (arith, f.deep, f.within)) }
+    off-found IsValue ts _ e us (record { front = r.front; split = r.split; fits = (f.fits 0 (omega arith), omega (arith, f.deep, f.within)) }) d.2

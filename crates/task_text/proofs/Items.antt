@@ -1,7 +1,7 @@
 -- Items are read one by one.
 use Rattle.std.proofs.Common.{◌≡◌, ℕ, zero, suc, ◌<◌, ◌≤◌, Bool, true, false, List, [], ◌∷◌, ◌++◌, length, Ok, Err, refl, sym, ap, ◌∙◌, arith, append_assoc, append-nil}
 use Rattle.std.proofs.lemmas.Bool.{cond-true, cond-false, false≢true}
-use Rattle.task_text.specs.declared.token.Token.{Token}
+use Rattle.task_tokens.specs.declared.token.Token.{Token}
 use Rattle.task_text.specs.Reading.{Outcome, found, ◌>>=◌, many}
 
 -- what was read before stands before what is read

@@ -1,9 +1,9 @@
 -- What is read stands at the front of the tokens.
-use Rattle.std.proofs.Common.{◌≡◌, ◌<◌, List, [], ◌∷◌, ◌++◌, length, Ok, refl, sym, ap, subst, ◌∙◌, arith, append_assoc, length-append}
+use Rattle.std.proofs.Common.{◌≡◌, List, [], ◌∷◌, ◌++◌, Ok, refl, sym, ap, subst, ◌∙◌, append_assoc}
 use Rattle.ease_base.specs.declared.place.Pos.{Pos}
-use Rattle.task_text.specs.declared.token.Sign.{Sign}
-use Rattle.task_text.specs.declared.token.Token.{Token}
-use Rattle.task_text.specs.Grammar.{symbol, IsBetween}
+use Rattle.task_tokens.specs.declared.token.Sign.{Sign}
+use Rattle.task_tokens.specs.declared.token.Token.{Token}
+use Rattle.task_text.specs.Forms.{symbol, IsBetween}
 use Rattle.task_text.specs.Reading.{Found, Outcome, found, ◌>>=◌, sign_at, between}
 use Rattle.task_text.proofs.TokenLaws.{same_found, bind_found, sign-sound, sign-complete}
 
@@ -20,10 +20,6 @@ off-found {T} P ts f x us o h = subst (λ (g : Found T). Off P ts g.value g.rest
 -- what a reading gives is in the grammar
 abbrev pub IsSound : {T : Type 0} → (T → List Token → Type 0) → (List Token → Outcome T) → Type 0
 IsSound {T} P read = (ts us : List Token) (x : T) → read ts ≡ found x us → Off P ts x us
-
--- a tree of the grammar is read, where what follows doesn't matter
-abbrev pub IsReadAlways : {T : Type 0} → (T → List Token → Type 0) → (List Token → Outcome T) → Type 0
-IsReadAlways {T} P read = (x : T) (front rest : List Token) → P x front → read (front ++ rest) ≡ found x rest
 
 -- a part and then others
 pub off-after : {T : Type 0} (P : T → List Token → Type 0) (ts mid us back : List Token) (x : T) (o : Off P ts x mid) → mid ≡ back ++ us → ts ≡ (o.front ++ back) ++ us
@@ -56,7 +52,3 @@ between-complete first last inner x a b mid rest e =
     ∙ bind-at _ _ a (mid ++ symbol last b ∷ rest) (sign-complete first a (mid ++ symbol last b ∷ rest))
     ∙ bind-at _ _ x (symbol last b ∷ rest) e
     ∙ bind-at _ _ b rest (sign-complete last b rest)
-
--- each item takes a token
-pub off-takes : {T : Type 0} (P : T → List Token → Type 0) (ts us : List Token) (x : T) → Off P ts x us → ((front : List Token) → P x front → 0 < length front) → length us < length ts
-off-takes P ts us x o some = omega (arith, ap length o.split, length-append o.front us, some o.front o.fits)

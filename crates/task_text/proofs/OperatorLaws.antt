@@ -6,12 +6,13 @@ use Rattle.task_ast.specs.declared.tree.Op1.{Op1}
 use Rattle.task_ast.specs.declared.tree.Op1.TheVariants as op1
 use Rattle.task_ast.specs.declared.tree.Op2.{Op2}
 use Rattle.task_ast.specs.declared.tree.Op2.TheVariants as op
-use Rattle.task_text.specs.declared.token.Sign.{Sign}
-use Rattle.task_text.specs.declared.token.Sign.TheVariants as sign
-use Rattle.task_text.specs.declared.token.Lexeme.{Lexeme}
-use Rattle.task_text.specs.declared.token.Lexeme.TheVariants as lexeme
-use Rattle.task_text.specs.declared.token.Token.{Token}
-use Rattle.task_text.specs.Grammar.{symbol, sign_of, binds, prefix_of, prefix_binds}
+use Rattle.task_tokens.specs.declared.token.Sign.{Sign}
+use Rattle.task_tokens.specs.declared.token.Sign.TheVariants as sign
+use Rattle.task_tokens.specs.declared.token.Lexeme.{Lexeme}
+use Rattle.task_tokens.specs.declared.token.Lexeme.TheVariants as lexeme
+use Rattle.task_tokens.specs.declared.token.Token.{Token}
+use Rattle.task_text.specs.Forms.{symbol}
+use Rattle.task_text.specs.Grammar.{sign_of, binds, prefix_of, prefix_binds}
 use Rattle.task_text.specs.Reading.{found, taken}
 use Rattle.task_text.specs.ReadingExpr.{binary, unary, binary_of, unary_of, is_tight, begins_operator, operator_at, prefix_at}
 use Rattle.task_text.proofs.TokenLaws.{not_found, same_found}

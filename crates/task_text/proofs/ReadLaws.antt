@@ -7,21 +7,21 @@ use Rattle.std.specs.List.{AllByRecursion}
 use Rattle.std.specs.Prelude.{IfOk, IfErr}
 use Rattle.ease_base.specs.declared.place.Pos.{Pos}
 use Rattle.task_ast.specs.declared.tree.Program.{Program}
-use Rattle.task_text.specs.declared.token.Token.{Token}
-use Rattle.task_text.specs.declared.token.Lexeme.{Lexeme}
-use Rattle.task_text.specs.declared.token.Lexeme.TheVariants as lexeme
-use Rattle.task_text.specs.declared.divide.Divided.{Divided}
+use Rattle.task_tokens.specs.declared.token.Token.{Token}
+use Rattle.task_tokens.specs.declared.token.Lexeme.{Lexeme}
+use Rattle.task_tokens.specs.declared.token.Lexeme.TheVariants as lexeme
+use Rattle.task_tokens.specs.declared.dividing.Divided.{Divided}
 use Rattle.task_text.specs.declared.error.TextError.{TextError}
 use Rattle.task_text.specs.declared.error.TextError.TheVariants.{Syntax, NumberTooWide, NoMemory}
-use Rattle.task_text.specs.Division.{Piece, BreaksAt, start, tokens_of, end_of}
-use Rattle.task_text.specs.Divided.{IsDivided}
+use Rattle.task_tokens.specs.Division.{Piece, BreaksAt, start, tokens_of, end_of}
+use Rattle.task_tokens.specs.Divided.{IsDivided}
 use Rattle.task_text.specs.Grammar.{IsProgram}
-use Rattle.task_text.specs.Reading.{Found, found, first_place}
+use Rattle.task_text.specs.Reading.{Found, found}
 use Rattle.task_text.specs.ReadingProgram.{program_at}
-use Rattle.task_text.specs.Reads.{Reads, Refuses, IsCause, IsNarrow, IsFirstTooWide, IsTooWideAt, IsPlaceAmong, Answers, IsReading, IsResult, is_too_wide}
-use Rattle.task_text.proofs.DivisionLaws as division
+use Rattle.task_text.specs.Reads.{Reads, Refuses, IsCause, IsFirstTooWide, IsTooWideAt, IsPlaceAmong, Answers, IsReading, IsResult, is_too_wide}
+use Rattle.task_tokens.specs.Fair.{IsNarrow}
+use Rattle.task_tokens.specs.Once.{DividesOnce}
 use Rattle.task_text.proofs.ProgramLaws.{program-sound, program-complete}
-use Rattle.task_text.proofs.Stays.{program-place}
 use Rattle.task_text.proofs.TokenLaws.{not_found, same_found}
 
 pub one_program : (tokens : List Token) (p q : Program) → IsProgram p tokens → IsProgram q tokens → p ≡ q
@@ -30,11 +30,6 @@ one_program tokens p q h k = let e : found p [] ≡ found q [] = sym (program-co
 abbrev tokens_in : List Piece → List Token
 tokens_in ps = tokens_of start ps
 
-pub one_tree_law : (text : List ℕ) (p q : Program) → Reads text p → Reads text q → p ≡ q
-one_tree_law text p q r s =
-    let e = division.one_division text r.pieces s.pieces r.divides s.divides in
-    one_program (tokens_in s.pieces) p q (subst (λ ps. IsProgram p (tokens_in ps)) e r.program) s.program
-
 -- a token among narrow ones isn't too wide
 narrow-at : (front back : List Token) (t : Token) → AllByRecursion IsNarrow (front ++ t ∷ back) → t.lexeme ≢ lexeme.TooWide
 narrow-at [] back t h = h.0
@@ -42,16 +37,6 @@ narrow-at (u ∷ front) back t h = narrow-at front back t h.1
 
 not_narrow : (tokens : List Token) (at : Pos) → AllByRecursion IsNarrow tokens → IsFirstTooWide tokens at → ⊥
 not_narrow tokens at n w = narrow-at w.front w.back w.token (subst (AllByRecursion IsNarrow) w.whole n) w.wide
-
-pub not_both : (text : List ℕ) (p : Program) (e : TextError) → Reads text p → Refuses text e → ⊥
-not_both text p (Syntax at) r (inl b) = division.no_break text r.pieces at r.divides b
-not_both text p (Syntax at) r (inr n) =
-    let e = division.one_division text r.pieces n.pieces r.divides n.divides in
-    n.none p (subst (λ ps. IsProgram p (tokens_in ps)) e r.program)
-not_both text p (NumberTooWide at) r w =
-    let e = division.one_division text r.pieces w.pieces r.divides w.divides in
-    not_narrow (tokens_in w.pieces) at (subst (λ ps. AllByRecursion IsNarrow (tokens_in ps)) e r.narrow) w.first
-not_both text p NoMemory r h = h
 
 -- the first token that is too wide is one
 first-same : (front other back more : List Token) (t u : Token) → front ++ t ∷ back ≡ other ++ u ∷ more → AllByRecursion IsNarrow front → AllByRecursion IsNarrow other → t.lexeme ≡ lexeme.TooWide → u.lexeme ≡ lexeme.TooWide → t ≡ u
@@ -63,32 +48,48 @@ first-same (x ∷ xs) (y ∷ ys) back more t u e n m w v = first-same xs ys back
 one_wide : (tokens : List Token) (at to : Pos) → IsFirstTooWide tokens at → IsFirstTooWide tokens to → at ≡ to
 one_wide tokens at to a b = sym a.place ∙ ap (λ (t : Token). t.at) (first-same a.front b.front a.back b.back a.token b.token (sym a.whole ∙ b.whole) a.narrow b.narrow a.wide b.wide) ∙ b.place
 
--- what a result is, where the text is a program
-pub only-from : (text : List ℕ) (r : Result Program TextError) → IsResult text r → (p : Program) → Reads text p → Answers r (Ok p)
-only-from text (Ok q) h p k = ap Ok (one_tree_law text q p h k)
-only-from text (Err NoMemory) h p k = tt
-only-from text (Err (Syntax at)) h p k = absurd (not_both text p (Syntax at) k h)
-only-from text (Err (NumberTooWide at)) h p k = absurd (not_both text p (NumberTooWide at) k h)
+module _ (once : DividesOnce) where
+  pub one_tree_law : (text : List ℕ) (p q : Program) → Reads text p → Reads text q → p ≡ q
+  one_tree_law text p q r s =
+      let e = once.one text r.pieces s.pieces r.divides s.divides in
+      one_program (tokens_in s.pieces) p q (subst (λ ps. IsProgram p (tokens_in ps)) e r.program) s.program
 
--- where it breaks off
-pub breaks-from : (text : List ℕ) (r : Result Program TextError) → IsResult text r → (at : Pos) → BreaksAt text at → Answers r (Err (Syntax at))
-breaks-from text (Ok q) h at b = absurd (not_both text q (Syntax at) h (inl b))
-breaks-from text (Err NoMemory) h at b = tt
-breaks-from text (Err (Syntax to)) (inl c) at b = ap (λ x. Err (Syntax x)) (division.one_break text to at c b)
-breaks-from text (Err (Syntax to)) (inr n) at b = absurd (division.no_break text n.pieces at n.divides b)
-breaks-from text (Err (NumberTooWide to)) h at b = absurd (division.no_break text h.pieces at h.divides b)
+  pub not_both : (text : List ℕ) (p : Program) (e : TextError) → Reads text p → Refuses text e → ⊥
+  not_both text p (Syntax at) r (inl b) = once.not_both text r.pieces at r.divides b
+  not_both text p (Syntax at) r (inr n) =
+      let e = once.one text r.pieces n.pieces r.divides n.divides in
+      n.none p (subst (λ ps. IsProgram p (tokens_in ps)) e r.program)
+  not_both text p (NumberTooWide at) r w =
+      let e = once.one text r.pieces w.pieces r.divides w.divides in
+      not_narrow (tokens_in w.pieces) at (subst (λ ps. AllByRecursion IsNarrow (tokens_in ps)) e r.narrow) w.first
+  not_both text p NoMemory r h = h
 
--- and where a number is too wide
-pub wide-from : (text : List ℕ) (r : Result Program TextError) → IsResult text r → (at : Pos) → IsTooWideAt text at → Answers r (Err (NumberTooWide at))
-wide-from text (Ok q) h at w = absurd (not_both text q (NumberTooWide at) h w)
-wide-from text (Err NoMemory) h at w = tt
-wide-from text (Err (Syntax to)) (inl c) at w = absurd (division.no_break text w.pieces to w.divides c)
-wide-from text (Err (Syntax to)) (inr n) at w =
-    let e = division.one_division text n.pieces w.pieces n.divides w.divides in
-    absurd (not_narrow (tokens_in w.pieces) at (subst (λ ps. AllByRecursion IsNarrow (tokens_in ps)) e n.narrow) w.first)
-wide-from text (Err (NumberTooWide to)) h at w =
-    let e = division.one_division text h.pieces w.pieces h.divides w.divides in
-    ap (λ x. Err (NumberTooWide x)) (one_wide (tokens_in w.pieces) to at (subst (λ ps. IsFirstTooWide (tokens_in ps) to) e h.first) w.first)
+  -- what a result is, where the text is a program
+  pub only-from : (text : List ℕ) (r : Result Program TextError) → IsResult text r → (p : Program) → Reads text p → Answers r (Ok p)
+  only-from text (Ok q) h p k = ap Ok (one_tree_law text q p h k)
+  only-from text (Err NoMemory) h p k = tt
+  only-from text (Err (Syntax at)) h p k = absurd (not_both text p (Syntax at) k h)
+  only-from text (Err (NumberTooWide at)) h p k = absurd (not_both text p (NumberTooWide at) k h)
+
+  -- where it breaks off
+  pub breaks-from : (text : List ℕ) (r : Result Program TextError) → IsResult text r → (at : Pos) → BreaksAt text at → Answers r (Err (Syntax at))
+  breaks-from text (Ok q) h at b = absurd (not_both text q (Syntax at) h (inl b))
+  breaks-from text (Err NoMemory) h at b = tt
+  breaks-from text (Err (Syntax to)) (inl c) at b = ap (λ x. Err (Syntax x)) (once.one_break text to at c b)
+  breaks-from text (Err (Syntax to)) (inr n) at b = absurd (once.not_both text n.pieces at n.divides b)
+  breaks-from text (Err (NumberTooWide to)) h at b = absurd (once.not_both text h.pieces at h.divides b)
+
+  -- and where a number is too wide
+  pub wide-from : (text : List ℕ) (r : Result Program TextError) → IsResult text r → (at : Pos) → IsTooWideAt text at → Answers r (Err (NumberTooWide at))
+  wide-from text (Ok q) h at w = absurd (not_both text q (NumberTooWide at) h w)
+  wide-from text (Err NoMemory) h at w = tt
+  wide-from text (Err (Syntax to)) (inl c) at w = absurd (once.not_both text w.pieces to w.divides c)
+  wide-from text (Err (Syntax to)) (inr n) at w =
+      let e = once.one text n.pieces w.pieces n.divides w.divides in
+      absurd (not_narrow (tokens_in w.pieces) at (subst (λ ps. AllByRecursion IsNarrow (tokens_in ps)) e n.narrow) w.first)
+  wide-from text (Err (NumberTooWide to)) h at w =
+      let e = once.one text h.pieces w.pieces h.divides w.divides in
+      ap (λ x. Err (NumberTooWide x)) (one_wide (tokens_in w.pieces) to at (subst (λ ps. IsFirstTooWide (tokens_in ps) to) e h.first) w.first)
 
 pub found-from : (text : List ℕ) (r : Result Program TextError) → IsResult text r → IfOk r (Reads text)
 found-from text (Ok p) h = h
@@ -102,8 +103,12 @@ refused-from text (Err e) h = h
 pub reading-found : (tokens us : List Token) (end : Pos) (p : Program) → program_at tokens ≡ found p us → IsReading tokens end (Ok p)
 reading-found tokens us end p e = program-sound tokens us p e
 
-pub reading-refused : (tokens us : List Token) (end : Pos) → program_at tokens ≡ Err us → IsReading tokens end (Err (Syntax (first_place us end)))
-reading-refused tokens us end e = (λ p h. not_found p [] us (sym e ∙ program-complete p tokens h), program-place tokens us end e)
+pub none-read : (tokens us : List Token) → program_at tokens ≡ Err us → (p : Program) → IsProgram p tokens → ⊥
+none-read tokens us e p h = not_found p [] us (sym e ∙ program-complete p tokens h)
+
+-- a token of the tokens is among them
+pub among : (tokens : List Token) (i : ℕ) (t : Token) (end : Pos) → i < length tokens → t ≡ get_or tokens i t → IsPlaceAmong tokens end t.at
+among tokens i t end h e = inl (take i tokens, drop (suc i) tokens, t, sym (take-append-drop i tokens) ∙ ap (λ xs. take i tokens ++ xs) (drop-cons tokens i t h ∙ ap (λ x. x ∷ drop (suc i) tokens) (sym e)), refl)
 
 -- the scan for a number that is too wide
 pub narrow-from : (x : Lexeme) → is_too_wide x ≡ false → x ≢ lexeme.TooWide

@@ -2,7 +2,7 @@
 use Rattle.std.proofs.Common.{◌≡◌, ℕ, zero, suc, ◌+◌, ◌-◌, ◌<◌, ◌≤◌, true, false, ltb, List, Result, Err, refl, sym, ap, subst, ◌∙◌, arith}
 use Rattle.std.proofs.lemmas.Bool.{cond-true, cond-false, lt-ltb, le-ltb}
 use Rattle.task_ast.specs.declared.tree.Op2.{Op2}
-use Rattle.task_text.specs.declared.token.Token.{Token}
+use Rattle.task_tokens.specs.declared.token.Token.{Token}
 use Rattle.task_text.specs.declared.error.ReadError.{ReadError}
 use Rattle.task_text.specs.declared.error.ReadError.TheVariants.{Syntax, NoMemory}
 use Rattle.task_text.specs.declared.expr.Deep.{Deep}

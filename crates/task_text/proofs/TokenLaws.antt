@@ -6,15 +6,15 @@ use Rattle.std.specs.Str.{bytes_eq}
 use denote.Enum.Bare.{same_true, true_same}
 use Rattle.ease_base.specs.declared.place.Pos.{Pos}
 use Rattle.task_ast.specs.declared.tree.Name.{Name}
-use Rattle.task_text.specs.declared.token.Keyword.{Keyword}
-use Rattle.task_text.specs.contracts.token.Keyword.{the_type as keywords}
-use Rattle.task_text.specs.declared.token.Sign.{Sign}
-use Rattle.task_text.specs.contracts.token.Sign.{the_type as signs}
-use Rattle.task_text.specs.declared.token.Lexeme.{Lexeme}
-use Rattle.task_text.specs.declared.token.Lexeme.TheVariants as lexeme
-use Rattle.task_text.specs.declared.token.Token.{Token}
+use Rattle.task_tokens.specs.declared.token.Keyword.{Keyword}
+use Rattle.task_tokens.specs.contracts.token.Keyword.{the_type as keywords}
+use Rattle.task_tokens.specs.declared.token.Sign.{Sign}
+use Rattle.task_tokens.specs.contracts.token.Sign.{the_type as signs}
+use Rattle.task_tokens.specs.declared.token.Lexeme.{Lexeme}
+use Rattle.task_tokens.specs.declared.token.Lexeme.TheVariants as lexeme
+use Rattle.task_tokens.specs.declared.token.Token.{Token}
 use Rattle.task_text.specs.declared.cursor.Numeral.{Numeral}
-use Rattle.task_text.specs.Grammar.{symbol, reserved, number, name}
+use Rattle.task_text.specs.Forms.{symbol, reserved, number, name}
 use Rattle.task_text.specs.Reading.{Found, Outcome, found, ◌>>=◌, is_symbol, is_reserved, begins_sign, begins_reserved, is_same, is_zero, any_at, same_at, zero_at, sign_at, reserved_at, name_at, number_at, name_of, number_of, taken}
 
 pub not_found : {T : Type 0} (x : T) (ts us : List Token) → ◌≡◌ {A = Outcome T} (Err us) (found x ts) → ⊥

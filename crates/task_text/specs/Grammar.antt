@@ -1,5 +1,5 @@
 -- The grammar: which tokens are which tree (docs/LANGUAGE.md, "Grammar").
-use Rattle.std.specs.Prelude.{◌≡◌, ◌⊎◌, ℕ, ◌+◌, ◌<◌, ◌≤◌, List, [], ◌∷◌, ◌++◌, length, Option, Some, None}
+use Rattle.std.specs.Prelude.{◌≡◌, ℕ, zero, suc, ◌+◌, ◌<◌, ◌≤◌, List, [], ◌∷◌, ◌++◌, length, Option, Some, None}
 use Rattle.ease_base.specs.declared.place.Pos.{Pos}
 use Rattle.task_ast.specs.declared.tree.Op1.{Op1}
 use Rattle.task_ast.specs.declared.tree.Op1.TheVariants as op1
@@ -7,39 +7,32 @@ use Rattle.task_ast.specs.declared.tree.Op2.{Op2}
 use Rattle.task_ast.specs.declared.tree.Op2.TheVariants as op
 use Rattle.task_ast.specs.declared.tree.Kind.{Kind}
 use Rattle.task_ast.specs.declared.tree.Kind.TheVariants as kind
-use Rattle.task_ast.specs.declared.tree.Name.{Name}
+use Rattle.task_ast.specs.declared.tree.Ann.{Ann}
+use Rattle.task_ast.specs.declared.tree.Ann.TheVariants as ann
 use Rattle.task_ast.specs.declared.tree.Expr.{Expr, end_of-Expr, more_of-Expr}
 use Rattle.task_ast.specs.declared.tree.Expr.TheVariants as expr
 use Rattle.task_ast.specs.declared.tree.Target.{Target}
 use Rattle.task_ast.specs.declared.tree.Target.TheVariants as target
-use Rattle.task_ast.specs.declared.tree.Stmt.{Stmt, Row_of-Stmt, end_of-Stmt, more_of-Stmt}
+use Rattle.task_ast.specs.declared.tree.Place.{Place}
+use Rattle.task_ast.specs.declared.tree.Place.TheVariants as place
+use Rattle.task_ast.specs.declared.tree.Stmt.{Stmt}
 use Rattle.task_ast.specs.declared.tree.Stmt.TheVariants as stmt
-use Rattle.task_ast.specs.declared.tree.Exit.{Exit, end_of-Exit, more_of-Exit}
+use Rattle.task_ast.specs.declared.tree.Exit.{Exit}
 use Rattle.task_ast.specs.declared.tree.Exit.TheVariants as exit
 use Rattle.task_ast.specs.declared.tree.Decl.{Decl}
 use Rattle.task_ast.specs.declared.tree.Decl.TheVariants as decl
 use Rattle.task_ast.specs.declared.tree.Task.{Task}
 use Rattle.task_ast.specs.declared.tree.Program.{Program}
 use Rattle.task_ast.specs.Readable.{depth, deepest, most_nested}
-use Rattle.task_text.specs.declared.token.Keyword.{Keyword}
-use Rattle.task_text.specs.declared.token.Keyword.TheVariants as keyword
-use Rattle.task_text.specs.declared.token.Sign.{Sign}
-use Rattle.task_text.specs.declared.token.Sign.TheVariants as sign
-use Rattle.task_text.specs.declared.token.Lexeme.TheVariants as lexeme
-use Rattle.task_text.specs.declared.token.Token.{Token}
-
--- a reserved word, a sign, a number and a name, each at its place
-abbrev pub reserved : Keyword → Pos → Token
-reserved k at = record { lexeme = lexeme.Reserved k; at = at }
-
-abbrev pub symbol : Sign → Pos → Token
-symbol s at = record { lexeme = lexeme.Symbol s; at = at }
-
-abbrev pub number : ℕ → Pos → Token
-number n at = record { lexeme = lexeme.Number n; at = at }
-
-abbrev pub name : Name → Token
-name x = record { lexeme = lexeme.Name x.text; at = x.at }
+use Rattle.task_tokens.specs.declared.token.Keyword.TheVariants as keyword
+use Rattle.task_tokens.specs.declared.token.Sign.{Sign}
+use Rattle.task_tokens.specs.declared.token.Sign.TheVariants as sign
+use Rattle.task_tokens.specs.declared.token.Token.{Token}
+use Rattle.task_text.specs.declared.cursor.Numeral.{Numeral}
+use Rattle.task_text.specs.declared.loop_head.Start.{Start}
+use Rattle.task_text.specs.declared.loop_head.Head.{Head}
+use Rattle.task_text.specs.declared.task.Body.{Body}
+use Rattle.task_text.specs.Forms.{symbol, number, name, Form, Word, Mark, Named, Numbered, Zero, Same, Done, Then, ◌▸◌, Either, AreAll, IsBetween, Enclosed}
 
 -- the sign of each binary operator, and how tightly it binds, from 0
 abbrev pub operator : Op2 → Sign × ℕ
@@ -78,14 +71,6 @@ prefix_of op1.Neg = sign.Minus
 abbrev pub prefix_binds : ℕ
 prefix_binds = 10
 
--- tokens of this kind between these two signs
-pub record IsBetween (first last : Sign) (P : List Token → Type 0) (tokens : List Token) : Type 0 where
-  pub at_first : Pos
-  pub at_last : Pos
-  pub inner : List Token
-  pub whole : tokens ≡ symbol first at_first ∷ (inner ++ symbol last at_last ∷ [])
-  pub inside : P inner
-
 -- such tokens in `( )`, `[ ]` and `{ }`
 abbrev pub IsParenthesized : (List Token → Type 0) → List Token → Type 0
 IsParenthesized P tokens = IsBetween sign.ParenOpen sign.ParenClose P tokens
@@ -106,103 +91,184 @@ IsExpr (expr.One' o u (more_of-Expr e end_of-Expr)) level tokens = (at : Pos) ×
 IsExpr (expr.Two' o u (more_of-Expr a end_of-Expr) v (more_of-Expr b end_of-Expr)) level tokens = (at : Pos) × (left right : List Token) × (tokens ≡ left ++ symbol (sign_of o) at ∷ right) × (level ≤ binds o) × IsExpr a (binds o) left × IsExpr b (binds o + 1) right
 
 -- an expression of allowed depth
-abbrev pub IsValue : Expr → List Token → Type 0
+abbrev pub IsValue : Form Expr
 IsValue e tokens = IsExpr e 0 tokens × (depth e ≤ deepest)
 
--- one item after another
-abbrev pub AreAll : {T : Type 0} → (T → List Token → Type 0) → List T → List Token → Type 0
-AreAll P [] tokens = tokens ≡ []
-AreAll P (x ∷ xs) tokens = (front back : List Token) × (tokens ≡ front ++ back) × P x front × AreAll P xs back
+-- `[ expr ]`
+abbrev pub IsIndex : Form Expr
+IsIndex = Enclosed sign.BracketOpen sign.BracketClose IsValue
+
+-- ---- declarations
 
 -- `const nv`, `nv`, or nothing where the words are volatile
-abbrev pub IsKind : Kind → List Token → Type 0
-IsKind kind.Const tokens = (a b : Pos) × (tokens ≡ reserved keyword.Const a ∷ reserved keyword.Nv b ∷ [])
-IsKind kind.Nv tokens = (a : Pos) × (tokens ≡ reserved keyword.Nv a ∷ [])
-IsKind kind.Vol tokens = tokens ≡ []
-
--- one number
-abbrev pub IsNumber : ℕ → List Token → Type 0
-IsNumber n tokens = (at : Pos) × (tokens ≡ number n at ∷ [])
+abbrev pub IsKind : Form Kind
+IsKind = Either (Word keyword.Const ▸ Word keyword.Nv ▸ Done kind.Const) (Either (Word keyword.Nv ▸ Done kind.Nv) (Done kind.Vol))
 
 -- `[ NUM ]`, or nothing
-abbrev pub IsSize : Option ℕ → List Token → Type 0
-IsSize None tokens = tokens ≡ []
-IsSize (Some n) tokens = IsBracketed (IsNumber n) tokens
+abbrev pub IsSize : Form (Option ℕ)
+IsSize = Either (Then (Enclosed sign.BracketOpen sign.BracketClose Numbered) (λ n. Done (Some n.value))) (Done None)
 
 -- `, NUM`
-abbrev pub IsNextValue : ℕ → List Token → Type 0
-IsNextValue n tokens = (a b : Pos) × (tokens ≡ symbol sign.Comma a ∷ number n b ∷ [])
+abbrev pub IsNextValue : Form ℕ
+IsNextValue = Mark sign.Comma ▸ Then Numbered (λ n. Done n.value)
 
 -- `NUM { , NUM }`
-abbrev pub AreValues : ℕ → List ℕ → List Token → Type 0
-AreValues n ns tokens = (at : Pos) × (back : List Token) × (tokens ≡ number n at ∷ back) × AreAll IsNextValue ns back
+abbrev pub AreValues : Form (List ℕ)
+AreValues = Then Numbered (λ n. Then (AreAll IsNextValue) (λ ns. Done (n.value ∷ ns)))
 
--- nothing, or `=` and values in braces, of which one alone may stand without
-abbrev pub IsInit : List ℕ → List Token → Type 0
-IsInit [] tokens = tokens ≡ []
-IsInit (n ∷ ns) tokens = (at : Pos) × (values : List Token) × (tokens ≡ symbol sign.Equal at ∷ values) × (((ns ≡ []) × IsNumber n values) ⊎ IsBraced (AreValues n ns) values)
+-- values in braces, or one alone
+abbrev pub IsList : Form (List ℕ)
+IsList = Either (Enclosed sign.BraceOpen sign.BraceClose AreValues) (Then Numbered (λ n. Done (n.value ∷ [])))
 
--- `kind word NAME size init ;`
-abbrev pub IsDecl : Decl → List Token → Type 0
-IsDecl (decl.Words k x n values) tokens = (a b : Pos) × (front size init : List Token) × (tokens ≡ front ++ reserved keyword.Word a ∷ name x ∷ (size ++ (init ++ symbol sign.Semicolon b ∷ []))) × IsKind k front × IsSize n size × IsInit values init
-IsDecl _ tokens = ⊥
+-- `=` and values, or nothing
+abbrev pub IsInit : Form (List ℕ)
+IsInit = Either (Mark sign.Equal ▸ IsList) (Done [])
 
--- `NAME` or `NAME [ expr ]`
-abbrev pub IsTarget : Target → List Token → Type 0
-IsTarget (target.Scalar x) tokens = tokens ≡ name x ∷ []
-IsTarget (target.Element x i) tokens = (index : List Token) × (tokens ≡ name x ∷ index) × IsBracketed (IsValue i) index
+-- `NAME size init ;`, behind `word`
+abbrev pub IsDeclared : Kind → Form Decl
+IsDeclared k = Then Named (λ x. Then IsSize (λ n. Then IsInit (λ values. Mark sign.Semicolon ▸ Done (decl.Words k x n values))))
 
--- `for ( NAME = 0 ; NAME < NUM ; NAME ++ )`, with the same name three times
-pub record IsHead (i : Name) (turns : ℕ) (at word : Pos) (tokens : List Token) : Type 0 where
-  pub second : Pos
-  pub third : Pos
-  pub at_first : Pos
-  pub at_equal : Pos
-  pub at_zero : Pos
-  pub at_start : Pos
-  pub at_less : Pos
-  pub at_end : Pos
-  pub at_step : Pos
-  pub at_last : Pos
-  pub whole :
-      tokens ≡ reserved keyword.For word ∷ symbol sign.ParenOpen at_first ∷ name i ∷ symbol sign.Equal at_equal ∷ number 0 at_zero ∷ symbol sign.Semicolon at_start
-      ∷ name (record { text = i.text; at = second }) ∷ symbol sign.Less at_less ∷ number turns at ∷ symbol sign.Semicolon at_end
-      ∷ name (record { text = i.text; at = third }) ∷ symbol sign.PlusPlus at_step ∷ symbol sign.ParenClose at_last ∷ []
+-- `* NAME ;`, behind `word`
+abbrev pub IsPointer : Form Decl
+IsPointer = Mark sign.Star ▸ Then Named (λ x. Mark sign.Semicolon ▸ Done (decl.Pointer x))
 
--- nothing, for no statements, or `else { statements }`
-abbrev pub IsElse : (List Token → Type 0) → List Token → Type 0
-IsElse P tokens = ((tokens ≡ []) × P []) ⊎ ((at : Pos) × (block : List Token) × (tokens ≡ reserved keyword.Else at ∷ block) × IsBraced P block)
+-- what may stand behind `word`: a pointer is volatile
+abbrev pub IsWorded : Kind → Form Decl
+IsWorded kind.Const = IsDeclared kind.Const
+IsWorded kind.Nv = IsDeclared kind.Nv
+IsWorded kind.Vol = Either IsPointer (IsDeclared kind.Vol)
 
-abbrev mutual
-  -- a statement at this nesting, which is 1 directly in the task and one more in each brace
-  pub IsStmt : ℕ → Stmt → List Token → Type 0
-  IsStmt level (stmt.Assign x e) tokens = (a b : Pos) × (place value : List Token) × (tokens ≡ place ++ symbol sign.Equal a ∷ (value ++ symbol sign.Semicolon b ∷ [])) × (level ≤ most_nested) × IsTarget x place × IsValue e value
-  IsStmt level (stmt.If' c m yes_row n no_row) tokens =
-      (at : Pos) × (test body other : List Token) × (tokens ≡ reserved keyword.If at ∷ (test ++ (body ++ other))) × (level ≤ most_nested) × IsParenthesized (IsValue c) test × IsBraced (AreStmts (1 + level) yes_row) body × IsElse (AreStmts (1 + level) no_row) other
-  IsStmt level (stmt.For' i turns at m row word) tokens = (head body : List Token) × (tokens ≡ head ++ body) × (level ≤ most_nested) × IsHead i turns at word head × IsBraced (AreStmts (1 + level) row) body
-  IsStmt level _ tokens = ⊥
+-- `peripheral NAME NUM ;`
+abbrev pub IsPeripheral : Form Decl
+IsPeripheral = Word keyword.Peripheral ▸ Then Named (λ x. Then Numbered (λ n. Mark sign.Semicolon ▸ Done (decl.Peripheral x n.value)))
 
-  -- a row of statements, one after another
-  pub AreStmts : ℕ → {n : _} → Row_of-Stmt n → List Token → Type 0
-  AreStmts level end_of-Stmt tokens = tokens ≡ []
-  AreStmts level (more_of-Stmt s rest) tokens = (front back : List Token) × (tokens ≡ front ++ back) × IsStmt level s front × AreStmts level rest back
+-- a declaration
+abbrev pub IsDecl : Form Decl
+IsDecl = Either IsPeripheral (Then IsKind (λ k. Word keyword.Word ▸ IsWorded k))
 
--- `NEXT ( NAME ) ;`, `STOP ;`, or `if ( expr ) exit else exit`, whose `if` is the one of this number on its path
-abbrev pub IsExit : ℕ → Exit → List Token → Type 0
-IsExit level (exit.Next x) tokens = (a b c d : Pos) × (tokens ≡ reserved keyword.Next a ∷ symbol sign.ParenOpen b ∷ name x ∷ symbol sign.ParenClose c ∷ symbol sign.Semicolon d ∷ [])
-IsExit level exit.Stop tokens = (a b : Pos) × (tokens ≡ reserved keyword.Stop a ∷ symbol sign.Semicolon b ∷ [])
-IsExit level (exit.Choose' c u (more_of-Exit a end_of-Exit) v (more_of-Exit b end_of-Exit)) tokens =
-    (at_if at_else : Pos) × (test first second : List Token) × (tokens ≡ reserved keyword.If at_if ∷ (test ++ (first ++ reserved keyword.Else at_else ∷ second))) × (level ≤ most_nested) × IsParenthesized (IsValue c) test × IsExit (1 + level) a first × IsExit (1 + level) b second
+-- ---- parts of statements
+
+-- `NAME` or `NAME [ expr ]`, which is assigned
+abbrev pub IsTarget : Form Target
+IsTarget = Then Named (λ x. Either (Then IsIndex (λ i. Done (target.Element x i))) (Done (target.Scalar x)))
+
+-- the same, whose address is taken
+abbrev pub IsAddress : Form Place
+IsAddress = Then Named (λ x. Either (Then IsIndex (λ i. Done (place.Element x i))) (Done (place.Scalar x)))
+
+-- an end of a copy: `NAME`, `& NAME` or `& NAME [ expr ]`
+abbrev pub IsPlace : Form Place
+IsPlace = Either (Mark sign.Ampersand ▸ IsAddress) (Then Named (λ x. Done (place.Bare x)))
+
+-- `SINGLE`, `ALWAYS` or `TIMELY ( NUM )`
+abbrev pub IsAnn : Form Ann
+IsAnn =
+    Either (Word keyword.Single ▸ Done ann.Single) (Either (Word keyword.Always ▸ Done ann.Always)
+    (Word keyword.Timely ▸ Then (Enclosed sign.ParenOpen sign.ParenClose Numbered) (λ n. Done (ann.Timely n.value))))
+
+-- `, expr`
+abbrev pub IsArgument : Form Expr
+IsArgument = Mark sign.Comma ▸ IsValue
+
+-- `if ( expr )`
+abbrev pub IsTest : Form Expr
+IsTest = Word keyword.If ▸ Enclosed sign.ParenOpen sign.ParenClose IsValue
+
+-- `for ( NAME = 0 ;`
+abbrev pub IsStart : Form Start
+IsStart = Then (Word keyword.For) (λ word. Mark sign.ParenOpen ▸ Then Named (λ i. Mark sign.Equal ▸ Zero ▸ Mark sign.Semicolon ▸ Done (record { variable = i; word = word })))
+
+-- `NAME < NUM ;` and `NAME ++ )`, with this name again
+abbrev pub IsBound : List ℕ → Form Numeral
+IsBound text = Same text ▸ Mark sign.Less ▸ Then Numbered (λ n. Mark sign.Semicolon ▸ Done n)
+
+abbrev pub IsStep : List ℕ → Form Pos
+IsStep text = Same text ▸ Mark sign.PlusPlus ▸ Mark sign.ParenClose
+
+-- the three together
+abbrev pub IsHead : Form Head
+IsHead = Then IsStart (λ s. Then (IsBound s.variable.text) (λ n. IsStep s.variable.text ▸ Done (record { variable = s.variable; turns = n; word = s.word })))
+
+-- ---- statements
+
+-- `IO ( NAME , annotation { , expr } ) ;`, which may set a target
+abbrev pub IsCall : Option Target → Form Stmt
+IsCall x =
+    Then (Word keyword.Io) (λ at. Mark sign.ParenOpen ▸ Then Named (λ p. Mark sign.Comma ▸ Then IsAnn (λ a. Then (AreAll IsArgument)
+    (λ args. Mark sign.ParenClose ▸ Mark sign.Semicolon ▸ Done (stmt.Io x p a args at)))))
+
+-- `& NAME ;` or `& NAME [ expr ] ;`, to which a pointer is set
+abbrev pub IsSetting : Target → Form Stmt
+IsSetting (target.Scalar p) y tokens = (Mark sign.Ampersand ▸ Then IsAddress (λ to. Mark sign.Semicolon ▸ Done (stmt.Point p to))) y tokens
+IsSetting (target.Element x i) y tokens = ⊥
+
+-- `expr ;`, which a target is set to
+abbrev pub IsGiving : Target → Form Stmt
+IsGiving x = Then IsValue (λ e. Mark sign.Semicolon ▸ Done (stmt.Assign x e))
+
+-- a target, `=`, and what it is set to
+abbrev pub IsAssigning : Form Stmt
+IsAssigning = Then IsTarget (λ x. Mark sign.Equal ▸ Either (IsCall (Some x)) (Either (IsSetting x) (IsGiving x)))
+
+-- `DMA ( place , place , expr ) ;`
+abbrev pub IsCopy : Form Stmt
+IsCopy =
+    Then (Word keyword.Dma) (λ at. Mark sign.ParenOpen ▸ Then IsPlace (λ to. Mark sign.Comma ▸ Then IsPlace (λ from. Mark sign.Comma ▸ Then IsValue
+    (λ n. Mark sign.ParenClose ▸ Mark sign.Semicolon ▸ Done (stmt.Dma to from n at)))))
+
+-- statements in braces, of this form each
+abbrev pub IsBody : Form Stmt → Form (List Stmt)
+IsBody P = Enclosed sign.BraceOpen sign.BraceClose (AreAll P)
+
+-- `IO_BLOCK ( annotation ) { statements }`
+abbrev pub IsBlock : Form Stmt → Form Stmt
+IsBlock P = Then (Word keyword.IoBlock) (λ at. Then (Enclosed sign.ParenOpen sign.ParenClose IsAnn) (λ a. Then (IsBody P) (λ body. Done (stmt.Block a body at))))
+
+-- `else { statements }`, or nothing
+abbrev pub IsElse : Form Stmt → Form (List Stmt)
+IsElse P = Either (Word keyword.Else ▸ IsBody P) (Done [])
+
+-- the bodies of an `if`, behind its condition
+abbrev pub IsChoice : Form Stmt → Expr → Form Stmt
+IsChoice P c = Then (IsBody P) (λ yes_part. Then (IsElse P) (λ no_part. Done (stmt.If c yes_part no_part)))
+
+-- `if ( expr ) { statements }`, and `else`
+abbrev pub IsIf : Form Stmt → Form Stmt
+IsIf P = Then IsTest (IsChoice P)
+
+-- `for (..) { statements }`
+abbrev pub IsLoop : Form Stmt → Form Stmt
+IsLoop P = Then IsHead (λ h. Then (IsBody P) (λ body. Done (stmt.For h.variable h.turns.value h.turns.at body h.word)))
+
+-- a statement that may nest so deep, which is 1 where it has no statements inside
+unfoldable pub IsStmt : ℕ → Form Stmt
+IsStmt zero s tokens = ⊥
+IsStmt (suc n) s tokens = Either IsAssigning (Either (IsCall None) (Either IsCopy (Either (IsBlock (IsStmt n)) (Either (IsIf (IsStmt n)) (IsLoop (IsStmt n)))))) s tokens
+
+-- ---- exits, tasks and programs
+
+-- `NEXT ( NAME ) ;` or `STOP ;`
+abbrev pub IsLeave : Form Exit
+IsLeave =
+    Either (Word keyword.Next ▸ Mark sign.ParenOpen ▸ Then Named (λ x. Mark sign.ParenClose ▸ Mark sign.Semicolon ▸ Done (exit.Next x)))
+    (Word keyword.Stop ▸ Mark sign.Semicolon ▸ Done exit.Stop)
+
+-- `exit else exit`, behind a condition
+abbrev pub IsChosen : Form Exit → Expr → Form Exit
+IsChosen P c = Then P (λ a. Word keyword.Else ▸ Then P (λ b. Done (exit.Choose c a b)))
+
+-- an exit with at most so many `if`s on each path
+unfoldable pub IsExit : ℕ → Form Exit
+IsExit zero e tokens = IsLeave e tokens
+IsExit (suc n) e tokens = Either (Then IsTest (IsChosen (IsExit n))) IsLeave e tokens
+
+-- the statements of a task and its exit
+abbrev pub IsWork : Form Body
+IsWork = Then (AreAll (IsStmt most_nested)) (λ stmts. Then (IsExit most_nested) (λ e. Done (record { stmts = stmts; exit = e })))
 
 -- `task NAME { statements exit }`
-pub record IsTask (t : Task) (tokens : List Token) : Type 0 where
-  pub at_task : Pos
-  pub at_brace : Pos
-  pub body : List Token
-  pub ending : List Token
-  pub whole : tokens ≡ reserved keyword.Task at_task ∷ name t.name ∷ symbol sign.BraceOpen at_brace ∷ (body ++ (ending ++ symbol sign.BraceClose t.close ∷ []))
-  pub stmts : AreAll (IsStmt 1) t.body body
-  pub exit : IsExit 1 t.exit ending
+abbrev pub IsTask : Form Task
+IsTask = Word keyword.Task ▸ Then Named (λ x. Mark sign.BraceOpen ▸ Then IsWork (λ b. Then (Mark sign.BraceClose) (λ close. Done (record { name = x; body = b.stmts; exit = b.exit; close = close }))))
 
 -- declarations, then one or more tasks
 pub record IsProgram (p : Program) (tokens : List Token) : Type 0 where

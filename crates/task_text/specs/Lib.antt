@@ -1,15 +1,8 @@
-pub mod Cutting
-pub mod Divided
-pub mod Division
+pub mod Forms
 pub mod Grammar
-pub mod GrammarRows
-pub mod Printed
 pub mod Reading
 pub mod ReadingDecl
 pub mod ReadingExpr
 pub mod ReadingProgram
 pub mod ReadingStmt
 pub mod Reads
-pub mod ReservedWords
-pub mod Spelling
-pub mod Unplaced

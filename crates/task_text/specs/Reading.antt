@@ -3,17 +3,19 @@ use Rattle.std.specs.Prelude.{◌≡◌, ℕ, zero, suc, ◌==◌, bytes_eq, Boo
 use denote.Enum.Bare.{sameb}
 use Rattle.ease_base.specs.declared.place.Pos.{Pos}
 use Rattle.task_ast.specs.declared.tree.Name.{Name}
-use Rattle.task_text.specs.declared.token.Keyword.{Keyword}
-use Rattle.task_text.specs.declared.token.Keyword.TheVariants as keyword
-use Rattle.task_text.specs.contracts.token.Keyword.{the_type as keywords}
-use Rattle.task_text.specs.declared.token.Sign.{Sign}
-use Rattle.task_text.specs.contracts.token.Sign.{the_type as signs}
-use Rattle.task_text.specs.declared.token.Lexeme.{Lexeme}
-use Rattle.task_text.specs.declared.token.Lexeme.TheVariants as lexeme
-use Rattle.task_text.specs.declared.token.Token.{Token}
+use Rattle.task_tokens.specs.declared.token.Keyword.{Keyword}
+use Rattle.task_tokens.specs.declared.token.Keyword.TheVariants as keyword
+use Rattle.task_tokens.specs.contracts.token.Keyword.{the_type as keywords}
+use Rattle.task_tokens.specs.declared.token.Sign.{Sign}
+use Rattle.task_tokens.specs.contracts.token.Sign.{the_type as signs}
+use Rattle.task_tokens.specs.declared.token.Lexeme.{Lexeme}
+use Rattle.task_tokens.specs.declared.token.Lexeme.TheVariants as lexeme
+use Rattle.task_tokens.specs.declared.token.Token.{Token}
 use Rattle.task_text.specs.declared.error.ReadError.{ReadError}
 use Rattle.task_text.specs.declared.error.ReadError.TheVariants.{Syntax, NoMemory}
 use Rattle.task_text.specs.declared.cursor.Numeral.{Numeral}
+use Rattle.task_text.specs.declared.cursor.Opening.{Opening}
+use Rattle.task_text.specs.declared.cursor.Opening.TheVariants as opening
 
 -- what is read, and the tokens behind it
 pub record Found (T : Type 0) : Type 0 where
@@ -31,6 +33,23 @@ infixl 10 ◌>>=◌
 abbrev pub ◌>>=◌ : {A B : Type 0} → Outcome A → (Found A → Outcome B) → Outcome B
 (Ok x) >>= f = f x
 (Err left) >>= f = Err left
+
+-- a reading of tokens
+abbrev pub Reader : Type 0 → Type 0
+Reader T = List Token → Outcome T
+
+-- a reading, and then what its value asks for
+abbrev pub chain : {A B : Type 0} → Reader A → (A → Reader B) → Reader B
+chain read next ts = read ts >>= λ x. next x.value x.rest
+
+-- a reading whose value doesn't matter, and then another
+infixr 30 ◌▹◌
+abbrev pub ◌▹◌ : {A B : Type 0} → Reader A → Reader B → Reader B
+read ▹ next = chain read (λ _. next)
+
+-- the value, and no token
+abbrev pub done : {T : Type 0} → T → Reader T
+done x ts = found x ts
 
 -- The cursor's method did this reading, unless memory ran out.
 abbrev pub Gives : {T : Type 0} → Outcome T → Result T ReadError → List Token → Type 0
@@ -55,11 +74,6 @@ abbrev pub is_name : Lexeme → Bool
 is_name (lexeme.Name x) = true
 is_name _ = false
 
--- the place of the first token, or of the end
-abbrev pub first_place : List Token → Pos → Pos
-first_place [] end = end
-first_place (t ∷ ts) end = t.at
-
 abbrev pub begins_sign : Sign → List Token → Bool
 begins_sign s [] = false
 begins_sign s (t ∷ ts) = is_symbol s t.lexeme
@@ -77,22 +91,39 @@ abbrev pub is_declaring : Lexeme → Bool
 is_declaring (lexeme.Reserved keyword.Const) = true
 is_declaring (lexeme.Reserved keyword.Nv) = true
 is_declaring (lexeme.Reserved keyword.Word) = true
+is_declaring (lexeme.Reserved keyword.Peripheral) = true
 is_declaring _ = false
 
 abbrev pub begins_decl : List Token → Bool
 begins_decl [] = false
 begins_decl (t ∷ ts) = is_declaring t.lexeme
 
--- what a statement begins with
-abbrev pub is_acting : Lexeme → Bool
-is_acting (lexeme.Name x) = true
-is_acting (lexeme.Reserved keyword.If) = true
-is_acting (lexeme.Reserved keyword.For) = true
-is_acting _ = false
+-- what a token begins in a task: a statement of that kind, or none
+abbrev pub opening_of : Lexeme → Opening
+opening_of (lexeme.Name x) = opening.Assignment
+opening_of (lexeme.Reserved keyword.Io) = opening.Call
+opening_of (lexeme.Reserved keyword.Dma) = opening.Copy
+opening_of (lexeme.Reserved keyword.IoBlock) = opening.Block
+opening_of (lexeme.Reserved keyword.If) = opening.If
+opening_of (lexeme.Reserved keyword.For) = opening.Loop
+opening_of _ = opening.Nothing
+
+abbrev pub next_opening : List Token → Opening
+next_opening [] = opening.Nothing
+next_opening (t ∷ ts) = opening_of t.lexeme
+
+-- whether a statement begins so
+abbrev pub is_acting : Opening → Bool
+is_acting opening.Nothing = false
+is_acting opening.Assignment = true
+is_acting opening.Call = true
+is_acting opening.Copy = true
+is_acting opening.Block = true
+is_acting opening.If = true
+is_acting opening.Loop = true
 
 abbrev pub begins_stmt : List Token → Bool
-begins_stmt [] = false
-begins_stmt (t ∷ ts) = is_acting t.lexeme
+begins_stmt ts = is_acting (next_opening ts)
 
 -- this name again, and the number 0
 abbrev pub is_same : List ℕ → Lexeme → Bool

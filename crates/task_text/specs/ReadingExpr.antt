@@ -5,13 +5,14 @@ use Rattle.task_ast.specs.declared.tree.Op1.TheVariants as op1
 use Rattle.task_ast.specs.declared.tree.Op2.{Op2}
 use Rattle.task_ast.specs.declared.tree.Op2.TheVariants as op
 use Rattle.task_ast.specs.declared.tree.Name.{Name}
+use Rattle.task_ast.specs.declared.tree.Expr.{Expr}
 use Rattle.task_ast.specs.declared.tree.Expr.TheVariants as expr
 use Rattle.task_ast.specs.Readable.{deepest}
-use Rattle.task_text.specs.declared.token.Sign.{Sign}
-use Rattle.task_text.specs.declared.token.Sign.TheVariants as sign
-use Rattle.task_text.specs.declared.token.Lexeme.{Lexeme}
-use Rattle.task_text.specs.declared.token.Lexeme.TheVariants as lexeme
-use Rattle.task_text.specs.declared.token.Token.{Token}
+use Rattle.task_tokens.specs.declared.token.Sign.{Sign}
+use Rattle.task_tokens.specs.declared.token.Sign.TheVariants as sign
+use Rattle.task_tokens.specs.declared.token.Lexeme.{Lexeme}
+use Rattle.task_tokens.specs.declared.token.Lexeme.TheVariants as lexeme
+use Rattle.task_tokens.specs.declared.token.Token.{Token}
 use Rattle.task_text.specs.declared.cursor.Numeral.{Numeral}
 use Rattle.task_text.specs.declared.expr.Deep.{Deep}
 use Rattle.task_text.specs.Grammar.{binds, prefix_binds}
@@ -139,5 +140,5 @@ expr_at zero level ts = Err ts
 expr_at (suc n) level ts = part_of (expr_at n) ts >>= λ left. joined_from (suc n) (suc n) level (expr_at n) left.value left.rest
 
 -- an expression of allowed depth
-abbrev pub value_at : List Token → Outcome Deep
-value_at ts = expr_at deepest 0 ts
+unfoldable pub value_at : List Token → Outcome Expr
+value_at ts = expr_at deepest 0 ts >>= λ d. found d.value.expr d.rest

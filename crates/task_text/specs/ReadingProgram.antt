@@ -8,69 +8,74 @@ use Rattle.task_ast.specs.declared.tree.Decl.{Decl}
 use Rattle.task_ast.specs.declared.tree.Task.{Task}
 use Rattle.task_ast.specs.declared.tree.Program.{Program}
 use Rattle.task_ast.specs.Readable.{most_nested}
-use Rattle.task_text.specs.declared.token.Keyword.TheVariants as keyword
-use Rattle.task_text.specs.declared.token.Sign.TheVariants as sign
-use Rattle.task_text.specs.declared.token.Token.{Token}
+use Rattle.task_tokens.specs.declared.token.Keyword.TheVariants as keyword
+use Rattle.task_tokens.specs.declared.token.Sign.TheVariants as sign
+use Rattle.task_tokens.specs.declared.token.Token.{Token}
+use Rattle.task_text.specs.declared.cursor.Opening.{Opening}
+use Rattle.task_text.specs.declared.cursor.Opening.TheVariants as opening
 use Rattle.task_text.specs.declared.task.Turn.{Turn}
 use Rattle.task_text.specs.declared.task.Turn.TheVariants as turn
 use Rattle.task_text.specs.declared.task.Body.{Body}
-use Rattle.task_text.specs.Reading.{Outcome, found, ◌>>=◌, is_empty, begins_sign, begins_reserved, begins_decl, begins_stmt, sign_at, reserved_at, name_at, many}
+use Rattle.task_text.specs.Reading.{Outcome, Reader, chain, ◌▹◌, done, found, ◌>>=◌, is_empty, begins_sign, begins_reserved, begins_decl, next_opening, sign_at, reserved_at, name_at, many}
 use Rattle.task_text.specs.ReadingDecl.{decl_at}
 use Rattle.task_text.specs.ReadingStmt.{test_at, choice_of, stmt_at}
 
 -- ---- exits
 
-unfoldable pub next_at : List Token → Outcome Exit
-next_at ts = do
-  a ← reserved_at keyword.Next ts
-  b ← sign_at sign.ParenOpen a.rest
-  x ← name_at b.rest
-  c ← sign_at sign.ParenClose x.rest
-  d ← sign_at sign.Semicolon c.rest
-  found (exit.Next x.value) d.rest
+unfoldable pub next_at : Reader Exit
+next_at ts = (reserved_at keyword.Next ▹ sign_at sign.ParenOpen ▹ chain name_at (λ x. sign_at sign.ParenClose ▹ sign_at sign.Semicolon ▹ done (exit.Next x))) ts
 
-unfoldable pub stop_at : List Token → Outcome Exit
-stop_at ts = do
-  a ← reserved_at keyword.Stop ts
-  b ← sign_at sign.Semicolon a.rest
-  found exit.Stop b.rest
+unfoldable pub stop_at : Reader Exit
+stop_at ts = (reserved_at keyword.Stop ▹ sign_at sign.Semicolon ▹ done exit.Stop) ts
 
-unfoldable pub leave_at : List Token → Outcome Exit
+unfoldable pub leave_at : Reader Exit
 leave_at ts = if begins_reserved keyword.Next ts then next_at ts else stop_at ts
 
 -- the two exits of an `if`, behind its condition
-unfoldable pub chosen_of : (List Token → Outcome Exit) → Expr → List Token → Outcome Exit
-chosen_of inner c ts = do
-  first ← inner ts
-  a ← reserved_at keyword.Else first.rest
-  second ← inner a.rest
-  found (exit.Choose c first.value second.value) second.rest
+unfoldable pub chosen_of : Reader Exit → Expr → Reader Exit
+chosen_of inner c ts = chain inner (λ a. reserved_at keyword.Else ▹ chain inner (λ b. done (exit.Choose c a b))) ts
 
-unfoldable pub choose_of : (List Token → Outcome Exit) → List Token → Outcome Exit
-choose_of inner ts = test_at ts >>= λ c. chosen_of inner c.value.expr c.rest
+unfoldable pub choose_of : Reader Exit → Reader Exit
+choose_of inner ts = chain test_at (chosen_of inner) ts
 
 -- an exit, on whose paths so many `if`s may stand
-unfoldable pub exit_at : ℕ → List Token → Outcome Exit
+unfoldable pub exit_at : ℕ → Reader Exit
 exit_at zero ts = leave_at ts
 exit_at (suc n) ts = if begins_reserved keyword.If ts then choose_of (exit_at n) ts else leave_at ts
 
 -- ---- tasks
 
-abbrev pub acting : Outcome Stmt → Outcome Turn
-acting read = read >>= λ s. found (turn.Act s.value) s.rest
+abbrev pub acting : Reader Stmt → Reader Turn
+acting read ts = chain read (λ s. done (turn.Act s)) ts
 
-abbrev pub leaving : Outcome Exit → Outcome Turn
-leaving read = read >>= λ e. found (turn.Leave e.value) e.rest
+abbrev pub leaving : Reader Exit → Reader Turn
+leaving read ts = chain read (λ e. done (turn.Leave e)) ts
 
 -- Behind the condition of an `if` in a task a brace makes it a statement; else it is the exit.
-unfoldable pub branch_of : Expr → List Token → Outcome Turn
-branch_of c ts = if begins_sign sign.BraceOpen ts then acting (choice_of (stmt_at (most_nested - 1)) c ts) else leaving (chosen_of (exit_at (most_nested - 1)) c ts)
+unfoldable pub branch_of : Expr → Reader Turn
+branch_of c ts = if begins_sign sign.BraceOpen ts then acting (choice_of (stmt_at (most_nested - 1)) c) ts else leaving (chosen_of (exit_at (most_nested - 1)) c) ts
 
--- the next statement of a task, or its exit
-unfoldable pub turn_at : List Token → Outcome Turn
-turn_at ts =
-    if begins_reserved keyword.If ts then (test_at ts >>= λ c. branch_of c.value.expr c.rest)
-    else (if begins_stmt ts then acting (stmt_at most_nested ts) else leaving (leave_at ts))
+unfoldable pub choosing_at : Reader Turn
+choosing_at ts = chain test_at branch_of ts
+
+unfoldable pub acting_at : Reader Turn
+acting_at ts = acting (stmt_at most_nested) ts
+
+unfoldable pub leaving_at : Reader Turn
+leaving_at ts = leaving leave_at ts
+
+-- the next statement of a task, or its exit, by what begins
+abbrev pub turn_of : Opening → Reader Turn
+turn_of opening.If ts = choosing_at ts
+turn_of opening.Nothing ts = leaving_at ts
+turn_of opening.Assignment ts = acting_at ts
+turn_of opening.Call ts = acting_at ts
+turn_of opening.Copy ts = acting_at ts
+turn_of opening.Block ts = acting_at ts
+turn_of opening.Loop ts = acting_at ts
+
+unfoldable pub turn_at : Reader Turn
+turn_at ts = turn_of (next_opening ts) ts
 
 -- what goes on behind such a turn
 abbrev pub after_turn : (List Token → Outcome Body) → Turn → List Token → Outcome Body
@@ -78,18 +83,15 @@ after_turn later (turn.Act s) ts = later ts >>= λ b. found (record { stmts = s 
 after_turn later (turn.Leave e) ts = found (record { stmts = []; exit = e }) ts
 
 -- the statements of a task and its exit, in so many turns at most
-unfoldable pub body_at : ℕ → List Token → Outcome Body
-body_at zero ts = Err ts
-body_at (suc n) ts = turn_at ts >>= λ t. after_turn (body_at n) t.value t.rest
+unfoldable pub work_in : ℕ → List Token → Outcome Body
+work_in zero ts = Err ts
+work_in (suc n) ts = turn_at ts >>= λ t. after_turn (work_in n) t.value t.rest
 
-unfoldable pub task_at : List Token → Outcome Task
-task_at ts = do
-  a ← reserved_at keyword.Task ts
-  x ← name_at a.rest
-  b ← sign_at sign.BraceOpen x.rest
-  body ← body_at (length b.rest) b.rest
-  close ← sign_at sign.BraceClose body.rest
-  found (record { name = x.value; body = body.value.stmts; exit = body.value.exit; close = close.value }) close.rest
+abbrev pub work_at : Reader Body
+work_at ts = work_in (length ts) ts
+
+unfoldable pub task_at : Reader Task
+task_at ts = (reserved_at keyword.Task ▹ chain name_at (λ x. sign_at sign.BraceOpen ▹ chain work_at (λ b. chain (sign_at sign.BraceClose) (λ close. done (record { name = x; body = b.stmts; exit = b.exit; close = close }))))) ts
 
 -- ---- programs
 

@@ -1,19 +1,16 @@
 -- Which program a text is, and which refusal is right where it is none.
-use Rattle.std.specs.Prelude.{◌≡◌, ◌≢◌, ◌⊎◌, List, ℕ, Bool, true, false, ◌∷◌, ◌++◌, Option, Some, None, Result, Ok, Err}
+use Rattle.std.specs.Prelude.{◌≡◌, ◌⊎◌, List, ℕ, Bool, true, false, ◌∷◌, ◌++◌, Option, Some, None, Result, Ok, Err}
 use Rattle.std.specs.List.{AllByRecursion}
 use Rattle.ease_base.specs.declared.place.Pos.{Pos}
 use Rattle.task_ast.specs.declared.tree.Program.{Program}
-use Rattle.task_text.specs.declared.token.Token.{Token}
-use Rattle.task_text.specs.declared.token.Lexeme.{Lexeme}
-use Rattle.task_text.specs.declared.token.Lexeme.TheVariants.{TooWide}
+use Rattle.task_tokens.specs.declared.token.Token.{Token}
+use Rattle.task_tokens.specs.declared.token.Lexeme.{Lexeme}
+use Rattle.task_tokens.specs.declared.token.Lexeme.TheVariants.{TooWide}
 use Rattle.task_text.specs.declared.error.TextError.{TextError}
 use Rattle.task_text.specs.declared.error.TextError.TheVariants.{Syntax, NumberTooWide, NoMemory}
-use Rattle.task_text.specs.Division.{Piece, Divides, BreaksAt, start, tokens_of, end_of}
+use Rattle.task_tokens.specs.Division.{Piece, Divides, BreaksAt, start, tokens_of, end_of}
+use Rattle.task_tokens.specs.Fair.{IsNarrow}
 use Rattle.task_text.specs.Grammar.{IsProgram}
-
--- the number, if it is one, fits a word
-abbrev pub IsNarrow : Token → Type 0
-IsNarrow t = t.lexeme ≢ TooWide
 
 -- the text divides into tokens, none too wide, and they are this program
 pub record Reads (text : List ℕ) (p : Program) : Type 0 where

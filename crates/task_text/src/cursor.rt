@@ -6,11 +6,11 @@ ghost use Rattle.task_text.specs.ReadingExpr as exprs;
 
 use crate::error::ReadError;
 use crate::operator::{binary_of, is_tight, unary_of};
-use crate::token::{Keyword, Lexeme, Sign, Token};
 use ease_base::{List, Pos};
 use std::alloc::Global;
 use std::marker::Model;
 use task_ast::{Name, Op1, Op2};
+use task_tokens::{Keyword, Lexeme, Sign, Token};
 
 /// The tokens that are left.
 #[derive(Drop)]
@@ -20,15 +20,31 @@ pub struct Cursor<'a> {
 
 impl<'a> Model for Cursor<'a> {
     ghost use Rattle.std.specs.Prelude.{List};
-    ghost use Rattle.task_text.specs.declared.token.Token.{Token};
+    ghost use Rattle.task_tokens.specs.declared.token.Token.{Token};
 
     ghost Value = { List Token };
 
     ghost view = { λ c. c.left.now };
 }
 
+/// What a token begins in a task: a statement of some kind, or none.
+#[derive(Clone, Copy)]
+pub enum Opening {
+    /// A name: what it is set to, or the target of a reading.
+    Assignment,
+    /// `IO`.
+    Call,
+    /// `DMA`.
+    Copy,
+    /// `IO_BLOCK`.
+    Block,
+    If,
+    Loop,
+    Nothing,
+}
+
 /// A number and its place.
-#[derive(Clone, Copy, Debug)]
+#[derive(Clone, Copy)]
 pub struct Numeral {
     pub value: u32,
     pub at: Pos,
@@ -69,19 +85,38 @@ fn is_declaring(lexeme: &Lexeme) -> bool
         Lexeme::Reserved(Keyword::Const) => true,
         Lexeme::Reserved(Keyword::Nv) => true,
         Lexeme::Reserved(Keyword::Word) => true,
+        Lexeme::Reserved(Keyword::Peripheral) => true,
         _ => false,
     }
 }
 
-/// Whether a statement begins so.
-fn is_acting(lexeme: &Lexeme) -> bool
-    ensures { result ≡ spec.is_acting lexeme.now }
+/// What a token begins in a task.
+fn opening_of(lexeme: &Lexeme) -> Opening
+    ensures { result ≡ spec.opening_of lexeme.now }
 {
     match lexeme {
-        Lexeme::Name(_) => true,
-        Lexeme::Reserved(Keyword::If) => true,
-        Lexeme::Reserved(Keyword::For) => true,
-        _ => false,
+        Lexeme::Name(_) => Opening::Assignment,
+        Lexeme::Reserved(Keyword::Io) => Opening::Call,
+        Lexeme::Reserved(Keyword::Dma) => Opening::Copy,
+        Lexeme::Reserved(Keyword::IoBlock) => Opening::Block,
+        Lexeme::Reserved(Keyword::If) => Opening::If,
+        Lexeme::Reserved(Keyword::For) => Opening::Loop,
+        _ => Opening::Nothing,
+    }
+}
+
+/// Whether a statement begins so.
+fn is_acting(opening: Opening) -> bool
+    ensures { result ≡ spec.is_acting opening }
+{
+    match opening {
+        Opening::Assignment
+        | Opening::Call
+        | Opening::Copy
+        | Opening::Block
+        | Opening::If
+        | Opening::Loop => true,
+        Opening::Nothing => false,
     }
 }
 
@@ -110,14 +145,11 @@ impl<'a> Cursor<'a> {
         Cursor { left: tokens }
     }
 
-    /// The place of the next token, or that of the end.
-    pub fn place(&self, end: Pos) -> Pos
-        ensures { result ≡ spec.first_place self.now end }
+    /// How many tokens are left.
+    pub fn left(&self) -> usize
+        ensures { result ≡ length self.now }
     {
-        match self.left.first() {
-            Some(token) => token.at,
-            None => end,
-        }
+        self.left.len()
     }
 
     pub fn is_at_end(&self) -> bool
@@ -165,9 +197,16 @@ impl<'a> Cursor<'a> {
     pub fn begins_stmt(&self) -> bool
         ensures { result ≡ spec.begins_stmt self.now }
     {
+        is_acting(self.next_opening())
+    }
+
+    /// What the next token begins: a statement of some kind, or none.
+    pub fn next_opening(&self) -> Opening
+        ensures { result ≡ spec.next_opening self.now }
+    {
         match self.left.first() {
-            Some(token) => is_acting(&token.lexeme),
-            None => false,
+            Some(token) => opening_of(&token.lexeme),
+            None => Opening::Nothing,
         }
     }
 

@@ -2,14 +2,14 @@
 ghost use Rattle.task_text.specs.Reading.{Gives, between};
 ghost use Rattle.task_text.specs.ReadingDecl as spec;
 ghost use Rattle.task_text.specs.ReadingProgram as programs;
-ghost use Rattle.task_text.specs.declared.token.Sign.TheVariants as sign;
+ghost use Rattle.task_tokens.specs.declared.token.Sign.TheVariants as sign;
 
 use crate::cursor::Cursor;
 use crate::error::ReadError;
-use crate::token::{Keyword, Sign};
 use ease_base::{List, Words};
 use std::alloc::Global;
 use task_ast::{Decl, Kind};
+use task_tokens::{Keyword, Sign};
 
 impl Cursor<'_> {
     /// Takes `const nv`.
@@ -120,18 +120,77 @@ impl Cursor<'_> {
         self.list(alloc)
     }
 
-    /// Takes a declaration of words.
-    #[tactic(auto, unfolding(crate::specs::ReadingDecl::decl_at))]
-    fn decl(&mut self, alloc: Global) -> Result<Decl, ReadError>
-        ensures { Gives (spec.decl_at self.old) result self.new }
+    /// Takes `NAME size init ;`, of words of this kind.
+    #[tactic(auto, unfolding(crate::specs::ReadingDecl::declared_at))]
+    fn declared(&mut self, alloc: Global, kind: Kind) -> Result<Decl, ReadError>
+        ensures { Gives (spec.declared_at kind self.old) result self.new }
     {
-        let kind = self.kind()?;
-        self.reserved(Keyword::Word)?;
         let name = self.name(alloc)?;
         let size = self.size()?;
         let values = self.init(alloc)?;
         self.sign(Sign::Semicolon)?;
         Ok(Decl::Words(kind, name, size, values))
+    }
+
+    /// Takes `* NAME ;`.
+    #[tactic(auto, unfolding(crate::specs::ReadingDecl::pointer_at))]
+    fn pointer(&mut self, alloc: Global) -> Result<Decl, ReadError>
+        ensures { Gives (spec.pointer_at self.old) result self.new }
+    {
+        self.sign(Sign::Star)?;
+        let name = self.name(alloc)?;
+        self.sign(Sign::Semicolon)?;
+        Ok(Decl::Pointer(name))
+    }
+
+    /// Takes what stands behind `word`: volatile words may be a pointer.
+    #[tactic(auto, unfolding(crate::specs::ReadingDecl::worded_at))]
+    fn worded(&mut self, alloc: Global, kind: Kind) -> Result<Decl, ReadError>
+        ensures { Gives (spec.worded_at kind self.old) result self.new }
+    {
+        match kind {
+            Kind::Const => self.declared(alloc, Kind::Const),
+            Kind::Nv => self.declared(alloc, Kind::Nv),
+            Kind::Vol => {
+                if self.begins_sign(Sign::Star) {
+                    return self.pointer(alloc);
+                }
+                self.declared(alloc, Kind::Vol)
+            }
+        }
+    }
+
+    /// Takes `peripheral NAME NUM ;`.
+    #[tactic(auto, unfolding(crate::specs::ReadingDecl::peripheral_at))]
+    fn peripheral(&mut self, alloc: Global) -> Result<Decl, ReadError>
+        ensures { Gives (spec.peripheral_at self.old) result self.new }
+    {
+        self.reserved(Keyword::Peripheral)?;
+        let name = self.name(alloc)?;
+        let number = self.number()?;
+        self.sign(Sign::Semicolon)?;
+        Ok(Decl::Peripheral(name, number.value))
+    }
+
+    /// Takes a declaration of words or of a pointer.
+    #[tactic(auto, unfolding(crate::specs::ReadingDecl::words_at))]
+    fn words(&mut self, alloc: Global) -> Result<Decl, ReadError>
+        ensures { Gives (spec.words_at self.old) result self.new }
+    {
+        let kind = self.kind()?;
+        self.reserved(Keyword::Word)?;
+        self.worded(alloc, kind)
+    }
+
+    /// Takes a declaration.
+    #[tactic(auto, unfolding(crate::specs::ReadingDecl::decl_at))]
+    fn decl(&mut self, alloc: Global) -> Result<Decl, ReadError>
+        ensures { Gives (spec.decl_at self.old) result self.new }
+    {
+        if self.begins_reserved(Keyword::Peripheral) {
+            return self.peripheral(alloc);
+        }
+        self.words(alloc)
     }
 
     /// Takes the declarations.

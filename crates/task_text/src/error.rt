@@ -18,7 +18,7 @@ pub enum TextError {
 }
 
 /// Why the tokens are not what is read. The cursor then stands at the token that doesn't fit.
-#[derive(Clone, Copy, Debug, PartialEq, Eq)]
+#[derive(Clone, Copy)]
 pub enum ReadError {
     Syntax,
     NoMemory,

@@ -4,10 +4,10 @@ ghost use Rattle.task_text.specs.ReadingProgram as spec;
 
 use crate::cursor::Cursor;
 use crate::error::ReadError;
-use crate::token::{Keyword, Sign};
 use ease_base::Boxed;
 use std::alloc::Global;
 use task_ast::{Exit, Expr};
+use task_tokens::{Keyword, Sign};
 
 impl Cursor<'_> {
     /// Takes `NEXT(NAME);`.
@@ -65,7 +65,7 @@ impl Cursor<'_> {
         ensures { Gives (spec.choose_of (spec.exit_at ifs) self.old) result self.new }
     {
         let condition = self.test(alloc)?;
-        self.chosen(alloc, ifs, condition.expr)
+        self.chosen(alloc, ifs, condition)
     }
 
     /// Takes an exit, on whose paths so many `if`s may stand.

@@ -6,16 +6,14 @@ ghost use Rattle.task_text.specs.ReadingExpr as spec;
 use crate::cursor::Cursor;
 use crate::error::ReadError;
 use crate::operator::{PREFIX_BINDS, binds};
-use crate::token::Sign;
 use ease_base::{Boxed, NoMemory};
 use std::alloc::Global;
+use task_ast::limits::DEEPEST;
 use task_ast::{Expr, Name, Op1, Op2};
-
-/// How deep an expression may be.
-pub const DEEPEST: u32 = 24;
+use task_tokens::Sign;
 
 /// An expression and how deep it is.
-#[derive(Debug, Drop)]
+#[derive(Drop)]
 pub struct Deep {
     pub expr: Expr,
     pub depth: u32,
@@ -71,6 +69,31 @@ fn joined(alloc: Global, op: Op2, left: Deep, right: Deep) -> Result<Deep, NoMem
 }
 
 impl Cursor<'_> {
+    /// Takes an expression.
+    #[tactic(auto, unfolding(crate::specs::ReadingExpr::value_at))]
+    pub fn value(&mut self, alloc: Global) -> Result<Expr, ReadError>
+        ensures { Gives (spec.value_at self.old) result self.new }
+    {
+        let deep = self.expr(alloc, DEEPEST, 0)?;
+        Ok(deep.expr)
+    }
+
+    /// Takes an expression between two signs.
+    #[tactic(auto, unfolding(crate::specs::Reading::between))]
+    pub fn value_between(
+        &mut self,
+        alloc: Global,
+        first: Sign,
+        last: Sign,
+    ) -> Result<Expr, ReadError>
+        ensures { Gives (between first last spec.value_at self.old) result self.new }
+    {
+        self.sign(first)?;
+        let value = self.value(alloc)?;
+        self.sign(last)?;
+        Ok(value)
+    }
+
     /// Takes a number.
     #[tactic(auto, unfolding(crate::specs::ReadingExpr::literal_at))]
     fn literal(&mut self) -> Result<Deep, ReadError>
@@ -87,7 +110,7 @@ impl Cursor<'_> {
     /// Takes an expression that is at most so deep between two signs.
     #[cycle(expr)]
     #[tactic(auto, unfolding(crate::specs::Reading::between))]
-    pub fn enclosed(
+    fn enclosed(
         &mut self,
         alloc: Global,
         first: Sign,
@@ -181,7 +204,7 @@ impl Cursor<'_> {
 
     /// Takes an expression that is at most so deep, of operators that bind at least so tightly.
     #[cycle(expr)]
-    pub fn expr(&mut self, alloc: Global, allowed: u32, level: u32) -> Result<Deep, ReadError>
+    fn expr(&mut self, alloc: Global, allowed: u32, level: u32) -> Result<Deep, ReadError>
         requires { allowed < 2 ^ 32 - 1 }
         ensures value { Gives (spec.expr_at allowed level self.old) result self.new }
         ensures deep { IfOk result (λ d. d.depth ≤ allowed) }

@@ -4,20 +4,20 @@ ghost use Rattle.task_text.specs.ReadingStmt as spec;
 
 use crate::cursor::{Cursor, Numeral};
 use crate::error::ReadError;
-use crate::token::{Keyword, Sign};
 use ease_base::Pos;
 use std::alloc::Global;
 use task_ast::Name;
+use task_tokens::{Keyword, Sign};
 
 /// The variable of a loop, and the place of `for`.
-#[derive(Debug, Drop)]
+#[derive(Drop)]
 pub struct Start {
     pub variable: Name,
     pub word: Pos,
 }
 
 /// The variable of a loop, its turns, and the place of `for`.
-#[derive(Debug, Drop)]
+#[derive(Drop)]
 pub struct Head {
     pub variable: Name,
     pub turns: Numeral,

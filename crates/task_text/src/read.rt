@@ -1,23 +1,21 @@
 //! Reads a program from its bytes.
-ghost use Rattle.std.specs.Prelude.{◌≡◌, ◌↔◌, ◌<◌, ◌⊎◌, length, List, ℕ, IfOk, IfErr, Ok, Err};
+ghost use Rattle.std.specs.Prelude.{◌≡◌, ◌<◌, ◌⊎◌, length, List, ℕ, IfOk, IfErr, Ok, Err};
 ghost use Rattle.ease_base.specs.declared.place.Pos.{Pos};
 ghost use Rattle.task_ast.specs.Readable.{IsReadable};
 ghost use Rattle.task_ast.specs.declared.tree.Program.{Program};
-ghost use Rattle.op_table.specs.Reserved.{IsReserved};
-ghost use Rattle.task_text.specs.Spelling.{letters};
-ghost use Rattle.task_text.specs.declared.token.Keyword.{Keyword};
 ghost use Rattle.task_text.specs.declared.error.TextError.{TextError};
 ghost use Rattle.task_text.specs.declared.error.TextError.TheVariants.{Syntax, NumberTooWide};
-ghost use Rattle.task_text.specs.Division.{Piece, Divides, BreaksAt};
-ghost use Rattle.task_text.specs.Reads.{Reads, Refuses, IsCause, IsTooWideAt, Answers, IsReading, IsFirstWide, IsResult, is_too_wide};
+ghost use Rattle.task_tokens.specs.Division.{BreaksAt};
+ghost use Rattle.task_text.specs.Reads.{Reads, Refuses, IsCause, IsTooWideAt, IsPlaceAmong, Answers, IsReading, IsFirstWide, IsResult, is_too_wide};
 
 use crate::cursor::Cursor;
-use crate::divide::{DivideError, divide};
 use crate::error::{ReadError, TextError};
-use crate::token::{Lexeme, Token};
 use ease_base::Pos;
 use std::alloc::Global;
 use task_ast::Program;
+use task_tokens::{
+    DivideError, Lexeme, Token, divide, divides_or_breaks, one_division, tokens_are_fair,
+};
 
 fn is_too_wide(lexeme: &Lexeme) -> bool
     ensures { result ≡ is_too_wide lexeme.now }
@@ -40,6 +38,16 @@ fn first_wide(tokens: &[Token]) -> Option<Pos>
     None
 }
 
+/// The place of the token with this number, or that of the end.
+fn place_of(tokens: &[Token], at: usize, end: Pos) -> Pos
+    ensures { IsPlaceAmong tokens.now end result }
+{
+    match tokens.get(at) {
+        Some(token) => token.at,
+        None => end,
+    }
+}
+
 /// The program that the tokens are; `end` is the place behind the last byte.
 fn read_tokens(alloc: Global, tokens: &[Token], end: Pos) -> Result<Program, TextError>
     ensures { IsReading tokens.now end result }
@@ -47,7 +55,10 @@ fn read_tokens(alloc: Global, tokens: &[Token], end: Pos) -> Result<Program, Tex
     let mut cursor = Cursor::new(tokens);
     match cursor.program(alloc) {
         Ok(program) => Ok(program),
-        Err(ReadError::Syntax) => Err(TextError::Syntax(cursor.place(end))),
+        Err(ReadError::Syntax) => {
+            let at = tokens.len().saturating_sub(cursor.left());
+            Err(TextError::Syntax(place_of(tokens, at, end)))
+        }
         Err(ReadError::NoMemory) => Err(TextError::NoMemory),
     }
 }
@@ -84,26 +95,23 @@ pub fn read_program(alloc: Global, text: &[u8]) -> Result<Program, TextError>
     // Names are name tokens, numbers are words, and nothing is too deep.
     ensures readable { IfOk result IsReadable }
 {
+    one_division();
+    tokens_are_fair();
     read(alloc, text)
 }
-
-/// A text divides into tokens in at most one way.
-pub fn one_division()
-    ensures { (text : List ℕ) (ps qs : List Piece) → Divides text ps → Divides text qs → ps ≡ qs }
-{}
 
 /// A text is at most one program.
 pub fn one_tree()
     ensures { (text : List ℕ) (p q : Program) → Reads text p → Reads text q → p ≡ q }
-{}
+{
+    one_division();
+}
 
 /// Each text is a program or refused, and none is both.
 pub fn read_or_refused()
     ensures one { (text : List ℕ) → ((p : Program) × Reads text p) ⊎ ((e : TextError) × Refuses text e) }
     ensures not_both { (text : List ℕ) (p : Program) (e : TextError) → Reads text p → Refuses text e → ⊥ }
-{}
-
-/// The words that are no names are those of the table of reserved words.
-pub fn reserved_words_are_keywords()
-    ensures { (word : List ℕ) → IsReserved word ↔ ((k : Keyword) × (word ≡ letters k)) }
-{}
+{
+    one_division();
+    divides_or_breaks();
+}

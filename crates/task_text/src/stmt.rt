@@ -1,82 +1,18 @@
 //! Reads statements.
-ghost use Rattle.std.specs.Prelude.{◌≤◌};
-ghost use Rattle.task_text.specs.Reading.{Gives, between};
-ghost use Rattle.task_text.specs.ReadingExpr.{value_at};
+ghost use Rattle.task_text.specs.Reading.{Gives};
 ghost use Rattle.task_text.specs.ReadingStmt as spec;
-ghost use Rattle.task_text.specs.declared.token.Sign.TheVariants as sign;
 
-use crate::cursor::Cursor;
+use crate::cursor::{Cursor, Opening};
 use crate::error::ReadError;
-use crate::expr::{DEEPEST, Deep};
-use crate::token::{Keyword, Sign};
 use ease_base::List;
 use std::alloc::Global;
-use task_ast::{Expr, Name, Stmt, Target};
-
-/// How deep statements may nest, and the `if`s of an exit.
-pub const MOST_NESTED: u32 = 16;
+use task_ast::{Expr, Stmt};
+use task_tokens::{Keyword, Sign};
 
 impl Cursor<'_> {
-    /// Takes an expression between two signs.
-    fn enclosed_value(&mut self, alloc: Global, first: Sign, last: Sign) -> Result<Deep, ReadError>
-        ensures { Gives (between first last value_at self.old) result self.new }
-    {
-        self.enclosed(alloc, first, last, DEEPEST)
-    }
-
-    /// Takes an expression.
-    fn value(&mut self, alloc: Global) -> Result<Deep, ReadError>
-        ensures { Gives (value_at self.old) result self.new }
-    {
-        self.expr(alloc, DEEPEST, 0)
-    }
-
-    /// Takes what stands behind the name of a target: an index or nothing.
-    #[tactic(auto, unfolding(crate::specs::ReadingStmt::target_of))]
-    fn target_behind(&mut self, alloc: Global, name: Name) -> Result<Target, ReadError>
-        ensures { Gives (spec.target_of name self.old) result self.new }
-    {
-        if !self.begins_sign(Sign::BracketOpen) {
-            return Ok(Target::Scalar(name));
-        }
-        let index = self.enclosed_value(alloc, Sign::BracketOpen, Sign::BracketClose)?;
-        Ok(Target::Element(name, index.expr))
-    }
-
-    /// Takes `NAME` or `NAME[expr]`.
-    #[tactic(auto, unfolding(crate::specs::ReadingStmt::target_at))]
-    fn target(&mut self, alloc: Global) -> Result<Target, ReadError>
-        ensures { Gives (spec.target_at self.old) result self.new }
-    {
-        let name = self.name(alloc)?;
-        self.target_behind(alloc, name)
-    }
-
-    /// Takes `target = expr;`.
-    #[tactic(auto, unfolding(crate::specs::ReadingStmt::assign_at))]
-    fn assign(&mut self, alloc: Global) -> Result<Stmt, ReadError>
-        ensures { Gives (spec.assign_at self.old) result self.new }
-    {
-        let target = self.target(alloc)?;
-        self.sign(Sign::Equal)?;
-        let value = self.value(alloc)?;
-        self.sign(Sign::Semicolon)?;
-        Ok(Stmt::Assign(target, value.expr))
-    }
-
-    /// Takes `if (expr)`.
-    #[tactic(auto, unfolding(crate::specs::ReadingStmt::test_at))]
-    pub fn test(&mut self, alloc: Global) -> Result<Deep, ReadError>
-        ensures { Gives (spec.test_at self.old) result self.new }
-    {
-        self.reserved(Keyword::If)?;
-        self.enclosed_value(alloc, Sign::ParenOpen, Sign::ParenClose)
-    }
-
     /// Takes statements up to what is none, where so many levels of nesting are left, their own among them.
     #[cycle(stmt)]
     fn stmts(&mut self, alloc: Global, nesting: u32) -> Result<List<Stmt>, ReadError>
-        requires { nesting ≤ 16 }
         ensures { Gives (spec.stmts_of (spec.stmt_at nesting) self.old) result self.new }
     {
         let mut stmts = List::new(alloc);
@@ -90,9 +26,8 @@ impl Cursor<'_> {
     /// Takes statements in braces.
     #[cycle(stmt)]
     #[tactic(auto, unfolding(crate::specs::Reading::between))]
-    fn block(&mut self, alloc: Global, nesting: u32) -> Result<List<Stmt>, ReadError>
-        requires { nesting ≤ 16 }
-        ensures { Gives (spec.block_of (spec.stmt_at nesting) self.old) result self.new }
+    fn body(&mut self, alloc: Global, nesting: u32) -> Result<List<Stmt>, ReadError>
+        ensures { Gives (spec.body_of (spec.stmt_at nesting) self.old) result self.new }
     {
         self.sign(Sign::BraceOpen)?;
         let stmts = self.stmts(alloc, nesting)?;
@@ -104,14 +39,13 @@ impl Cursor<'_> {
     #[cycle(stmt)]
     #[tactic(auto, unfolding(crate::specs::ReadingStmt::else_of))]
     fn otherwise(&mut self, alloc: Global, nesting: u32) -> Result<List<Stmt>, ReadError>
-        requires { nesting ≤ 16 }
         ensures { Gives (spec.else_of (spec.stmt_at nesting) self.old) result self.new }
     {
         if !self.begins_reserved(Keyword::Else) {
             return Ok(List::new(alloc));
         }
         self.reserved(Keyword::Else)?;
-        self.block(alloc, nesting)
+        self.body(alloc, nesting)
     }
 
     /// Takes the bodies of an `if`, behind its condition.
@@ -123,10 +57,9 @@ impl Cursor<'_> {
         nesting: u32,
         condition: Expr,
     ) -> Result<Stmt, ReadError>
-        requires { nesting ≤ 16 }
         ensures { Gives (spec.choice_of (spec.stmt_at nesting) condition self.old) result self.new }
     {
-        let first = self.block(alloc, nesting)?;
+        let first = self.body(alloc, nesting)?;
         let second = self.otherwise(alloc, nesting)?;
         Ok(Stmt::If(condition, first, second))
     }
@@ -135,22 +68,20 @@ impl Cursor<'_> {
     #[cycle(stmt)]
     #[tactic(auto, unfolding(crate::specs::ReadingStmt::if_of))]
     fn if_stmt(&mut self, alloc: Global, nesting: u32) -> Result<Stmt, ReadError>
-        requires { nesting ≤ 16 }
         ensures { Gives (spec.if_of (spec.stmt_at nesting) self.old) result self.new }
     {
         let condition = self.test(alloc)?;
-        self.choice(alloc, nesting, condition.expr)
+        self.choice(alloc, nesting, condition)
     }
 
     /// Takes a loop.
     #[cycle(stmt)]
-    #[tactic(auto, unfolding(crate::specs::ReadingStmt::for_of))]
-    fn for_stmt(&mut self, alloc: Global, nesting: u32) -> Result<Stmt, ReadError>
-        requires { nesting ≤ 16 }
-        ensures { Gives (spec.for_of (spec.stmt_at nesting) self.old) result self.new }
+    #[tactic(auto, unfolding(crate::specs::ReadingStmt::loop_of))]
+    fn loop_stmt(&mut self, alloc: Global, nesting: u32) -> Result<Stmt, ReadError>
+        ensures { Gives (spec.loop_of (spec.stmt_at nesting) self.old) result self.new }
     {
         let head = self.loop_head(alloc)?;
-        let body = self.block(alloc, nesting)?;
+        let body = self.body(alloc, nesting)?;
         Ok(Stmt::For(
             head.variable,
             head.turns.value,
@@ -160,22 +91,45 @@ impl Cursor<'_> {
         ))
     }
 
+    /// Takes `IO_BLOCK(annotation)` and statements in braces.
+    #[cycle(stmt)]
+    #[tactic(auto, unfolding(crate::specs::ReadingStmt::block_of, crate::specs::Reading::between))]
+    fn block(&mut self, alloc: Global, nesting: u32) -> Result<Stmt, ReadError>
+        ensures { Gives (spec.block_of (spec.stmt_at nesting) self.old) result self.new }
+    {
+        let word = self.reserved(Keyword::IoBlock)?;
+        self.sign(Sign::ParenOpen)?;
+        let annotation = self.annotation()?;
+        self.sign(Sign::ParenClose)?;
+        let body = self.body(alloc, nesting)?;
+        Ok(Stmt::Block(annotation, body, word))
+    }
+
+    /// Takes the statement that begins so; inside it so many levels of nesting are left.
+    #[cycle(stmt)]
+    fn opened(&mut self, alloc: Global, nesting: u32, opening: Opening) -> Result<Stmt, ReadError>
+        ensures { Gives (spec.stmt_of opening (spec.stmt_at nesting) self.old) result self.new }
+    {
+        match opening {
+            Opening::Assignment => self.assigning(alloc),
+            Opening::Call => self.call(alloc, None),
+            Opening::Copy => self.copy(alloc),
+            Opening::Block => self.block(alloc, nesting),
+            Opening::If => self.if_stmt(alloc, nesting),
+            Opening::Loop => self.loop_stmt(alloc, nesting),
+            Opening::Nothing => Err(ReadError::Syntax),
+        }
+    }
+
     /// Takes a statement where so many levels of nesting are left, its own among them.
     #[cycle(stmt)]
     #[tactic(auto, unfolding(crate::specs::ReadingStmt::stmt_at))]
     pub fn stmt(&mut self, alloc: Global, nesting: u32) -> Result<Stmt, ReadError>
-        requires { nesting ≤ 16 }
         ensures { Gives (spec.stmt_at nesting self.old) result self.new }
     {
         if nesting == 0 {
             return Err(ReadError::Syntax);
         }
-        if self.begins_reserved(Keyword::If) {
-            return self.if_stmt(alloc, nesting - 1);
-        }
-        if self.begins_reserved(Keyword::For) {
-            return self.for_stmt(alloc, nesting - 1);
-        }
-        self.assign(alloc)
+        self.opened(alloc, nesting - 1, self.next_opening())
     }
 }

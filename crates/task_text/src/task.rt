@@ -1,25 +1,24 @@
 //! Reads tasks.
 ghost use Rattle.task_text.specs.Reading.{Gives};
 ghost use Rattle.task_text.specs.ReadingProgram as spec;
-ghost use Rattle.std.specs.Prelude.{length};
 
-use crate::cursor::Cursor;
+use crate::cursor::{Cursor, Opening};
 use crate::error::ReadError;
-use crate::stmt::MOST_NESTED;
-use crate::token::{Keyword, Sign};
 use ease_base::List;
 use std::alloc::Global;
+use task_ast::limits::MOST_NESTED;
 use task_ast::{Exit, Expr, Stmt, Task};
+use task_tokens::{Keyword, Sign};
 
 /// What comes next in a task: a statement, or its exit.
-#[derive(Debug, Drop)]
+#[derive(Drop)]
 pub enum Turn {
     Act(Stmt),
     Leave(Exit),
 }
 
 /// The statements of a task and its exit.
-#[derive(Debug, Drop)]
+#[derive(Drop)]
 pub struct Body {
     pub stmts: List<Stmt>,
     pub exit: Exit,
@@ -39,26 +38,52 @@ impl Cursor<'_> {
         Ok(Turn::Leave(exit))
     }
 
+    /// Takes what an `if` in a task begins.
+    #[tactic(auto, unfolding(crate::specs::ReadingProgram::choosing_at))]
+    fn choosing(&mut self, alloc: Global) -> Result<Turn, ReadError>
+        ensures { Gives (spec.choosing_at self.old) result self.new }
+    {
+        let condition = self.test(alloc)?;
+        self.branch(alloc, condition)
+    }
+
+    /// Takes a statement.
+    #[tactic(auto, unfolding(crate::specs::ReadingProgram::acting_at))]
+    fn acting(&mut self, alloc: Global) -> Result<Turn, ReadError>
+        ensures { Gives (spec.acting_at self.old) result self.new }
+    {
+        let stmt = self.stmt(alloc, MOST_NESTED)?;
+        Ok(Turn::Act(stmt))
+    }
+
+    /// Takes an exit without an `if`.
+    #[tactic(auto, unfolding(crate::specs::ReadingProgram::leaving_at))]
+    fn leaving(&mut self, alloc: Global) -> Result<Turn, ReadError>
+        ensures { Gives (spec.leaving_at self.old) result self.new }
+    {
+        let exit = self.leave(alloc)?;
+        Ok(Turn::Leave(exit))
+    }
+
     /// Takes the next statement of a task, or its exit.
     #[tactic(auto, unfolding(crate::specs::ReadingProgram::turn_at))]
     fn turn(&mut self, alloc: Global) -> Result<Turn, ReadError>
         ensures { Gives (spec.turn_at self.old) result self.new }
     {
-        if self.begins_reserved(Keyword::If) {
-            let condition = self.test(alloc)?;
-            return self.branch(alloc, condition.expr);
+        match self.next_opening() {
+            Opening::If => self.choosing(alloc),
+            Opening::Nothing => self.leaving(alloc),
+            Opening::Assignment => self.acting(alloc),
+            Opening::Call => self.acting(alloc),
+            Opening::Copy => self.acting(alloc),
+            Opening::Block => self.acting(alloc),
+            Opening::Loop => self.acting(alloc),
         }
-        if self.begins_stmt() {
-            let stmt = self.stmt(alloc, MOST_NESTED)?;
-            return Ok(Turn::Act(stmt));
-        }
-        let exit = self.leave(alloc)?;
-        Ok(Turn::Leave(exit))
     }
 
     /// Takes the statements of a task and its exit.
-    fn body(&mut self, alloc: Global) -> Result<Body, ReadError>
-        ensures { Gives (spec.body_at (length self.old) self.old) result self.new }
+    fn work(&mut self, alloc: Global) -> Result<Body, ReadError>
+        ensures { Gives (spec.work_at self.old) result self.new }
     {
         let mut stmts = List::new(alloc);
         'turns: loop {
@@ -77,7 +102,7 @@ impl Cursor<'_> {
         self.reserved(Keyword::Task)?;
         let name = self.name(alloc)?;
         self.sign(Sign::BraceOpen)?;
-        let Body { stmts, exit } = self.body(alloc)?;
+        let Body { stmts, exit } = self.work(alloc)?;
         let close = self.sign(Sign::BraceClose)?;
         Ok(Task {
             name,

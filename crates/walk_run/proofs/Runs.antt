@@ -1,106 +1,116 @@
--- A run that is under way: the states so far, and the run that is left.
-use Rattle.std.proofs.Common.{◌≡◌, ◌∙◌, ℕ, zero, suc, ◌+◌, ◌-◌, ◌<◌, ◌≤◌, List, [], ◌∷◌, ◌++◌, Ok, Err, Result, refl, sym, ap, subst, append_assoc, arith}
-use Rattle.std.proofs.lemmas.List.{append-nil}
+-- The outcome of a call, of an `if`, a block and a body, and of a task, by how their parts end.
+use Rattle.std.proofs.Common.{◌≡◌, ◌≢◌, ◌∙◌, ℕ, ◌+◌, ◌<◌, List, ◌∷◌, length, get_or, drop, Option, Some, None, Result, Ok, refl, sym, ap}
+use Rattle.std.proofs.lemmas.List.{at_drop_more}
+use Rattle.task_ast.specs.declared.core_form.CoreExpr.{CoreExpr}
+use Rattle.task_ast.specs.declared.core_form.CoreTarget.{CoreTarget}
+use Rattle.task_ast.specs.declared.core_form.CoreStmt.{CoreStmt}
+use Rattle.task_ast.specs.declared.core_form.CoreStmt.TheVariants as stmt
+use Rattle.task_ast.specs.declared.core_form.CoreTask.{CoreTask}
 use Rattle.task_ast.specs.declared.core_form.Core.{Core}
-use Rattle.walk_run.specs.declared.walked.WalkEnd.{WalkEnd}
-use Rattle.walk_run.specs.declared.walked.WalkEnd.TheVariants.{Stopped, Limit, Trapped}
-use Rattle.walk_run.specs.declared.walked.State.{State}
-use Rattle.walk_run.specs.declared.walked.Walked.{Walked}
-use Rattle.task_ast.specs.declared.core_form.Array.{Array}
-use Rattle.walk_run.specs.Store.{Store, HasShape, declared_store, kept_words}
-use Rattle.walk_run.proofs.Keeping.{HasEnded, turn_keeps}
-use Rattle.walk_run.proofs.Shapes.{shape_declared}
-use Rattle.walk_run.specs.Task.{Turn, make_turn, turn_of}
-use Rattle.walk_run.specs.Walk.{ends, with_state, unless_stopped, goes_on, walk_from, walk_of}
+use Rattle.walk_run.specs.declared.trap.Trap.{Trap}
+use Rattle.walk_run.specs.declared.place.Place.{Place}
+use Rattle.walk_run.specs.declared.walked.EarlyEnd.{EarlyEnd}
+use Rattle.walk_run.specs.Store.{Store, put_word, fresh}
+use Rattle.walk_run.specs.Value.{value_of, target_place}
+use Rattle.walk_run.specs.Plain.{chosen}
+use Rattle.walk_run.specs.Exits.{next_of, exit_runs}
+use Rattle.walk_run.specs.Walk.{Onward, on_found, each_valued, with_reading, call_walk, exit_walk}
+use Rattle.walk_run.specs.WalkRows.{walk_if, walk_block}
+use Rattle.walk_run.specs.WalkLaws.{values_continue, reading_continues, after_statement, after_body}
+use Rattle.walk_run.specs.Outcome.{Outcome, ended, halted, outcome_of, from_outcome, statement_outcome, body_outcome, task_outcome}
+use Rattle.walk_run.proofs.Steps.{chosen_first}
 
-abbrev pub run_of : List State → WalkEnd → Walked
-run_of states end = record { states = states; end = end }
+-- the outcome of what has ended
+abbrev pub unit_ended : Onward (Outcome (Unit {0}))
+unit_ended = ended tt
 
--- a run behind the states so far
-abbrev pub after_states : List State → Walked → Walked
-after_states states w = run_of (states ++ w.states) w.end
+-- what a call does with its reading: nothing, or it is put to a place
+abbrev pub dropped : ℕ → Onward (Outcome (Unit {0}))
+dropped word = unit_ended
 
-abbrev pub state_with : ℕ → List (List ℕ) → State
-state_with next words = record { next = next; words = words }
+abbrev pub put_at : Place → ℕ → Onward (Outcome (Unit {0}))
+put_at at word store = unit_ended (put_word at word store)
 
-abbrev pub shown : Core → ℕ → Store → State
-shown c next store = state_with next (kept_words c.arrays store)
+-- a call without a target, by how its reading was taken
+pub call_drops : (target : Option CoreTarget) (args : List CoreExpr) (store : Store) (readings left : List ℕ) (r s : Result ℕ EarlyEnd)
+    → target ≡ None → outcome_of r store left ≡ each_valued halted args (with_reading halted ended) store readings → r ≡ s
+    → from_outcome halted (outcome_of s store left) dropped ≡ call_walk halted target args (ended tt) store readings
+call_drops target args store readings left r s none ends was =
+    ap (λ x. from_outcome halted (outcome_of x store left) dropped) (sym was)
+    ∙ ap (λ x. from_outcome halted x dropped) ends
+    ∙ sym (values_continue halted dropped args _ _ (reading_continues halted dropped _ _ (λ word after more. refl)) store readings)
+    ∙ ap (λ t. call_walk halted t args (ended tt) store readings) (sym none)
 
--- after so many of the tasks, the states so far and the run that is left are the whole run
-pub record IsUnderWay (c : Core) (tasks ended number : ℕ) (store : Store) (states : List State) (whole : Walked) : Type 0 where
-  pub some : 0 < number
-  pub shape : HasShape c.arrays store
-  pub whole_is : after_states states (walk_from c (tasks - ended) number store) ≡ whole
+-- and one with a target
+pub call_puts : (target : Option CoreTarget) (t : CoreTarget) (at : Place) (args : List CoreExpr) (store : Store) (readings left : List ℕ) (r s : Result ℕ EarlyEnd)
+    → target ≡ Some t → target_place t store ≡ Ok at → outcome_of r store left ≡ each_valued halted args (with_reading halted ended) store readings → r ≡ s
+    → from_outcome halted (outcome_of s store left) (put_at at) ≡ call_walk halted target args (ended tt) store readings
+call_puts target t at args store readings left r s some found ends was =
+    ap (λ x. from_outcome halted (outcome_of x store left) (put_at at)) (sym was)
+    ∙ ap (λ x. from_outcome halted x (put_at at)) ends
+    ∙ sym (values_continue halted (put_at at) args _ _
+    (reading_continues halted (put_at at) _ _ (λ word after more. refl)) store readings)
+    ∙ ap (λ p. on_found halted p (λ p. each_valued halted args (with_reading halted (put_at p))) store readings) (sym found)
+    ∙ ap (λ t. call_walk halted t args (ended tt) store readings) (sym some)
 
--- at the beginning
-pub run_begins : (c : Core) (arrays : List Array) (readings : List ℕ) (tasks : ℕ) (store : Store) (states : List State)
-    → arrays ≡ c.arrays → store ≡ declared_store arrays → states ≡ []
-    → IsUnderWay c tasks 0 1 store states (walk_of c readings tasks)
-unfolding walk_of
-run_begins c arrays readings tasks store states same declared none =
-    let all : tasks - 0 ≡ tasks = omega arith in
-    record {
-      some = omega arith;
-      shape = subst (HasShape c.arrays) (sym (declared ∙ ap declared_store same)) (shape_declared c.arrays);
-      whole_is = ap (λ s. after_states s (walk_from c (tasks - 0) 1 store)) none
-          ∙ ap (λ n. walk_from c n 1 store) all
-          ∙ ap (walk_from c tasks 1) (declared ∙ ap declared_store same);
-    }
+if_at : (s : CoreStmt) (store : Store) (readings : List ℕ) (c : CoreExpr) (yes_part no_part : List CoreStmt) (r : Result ℕ Trap) → s ≡ stmt.If c yes_part no_part → value_of c store ≡ r
+    → statement_outcome s store readings ≡ on_found halted r (λ word. chosen word (body_outcome yes_part) (body_outcome no_part)) store readings
+if_at s store readings c yes_part no_part r is v =
+    ap (λ x. statement_outcome x store readings) is
+    ∙ ap (λ f. f store readings) (walk_if halted c yes_part no_part (ended tt))
+    ∙ ap (λ x. on_found halted x (λ word. chosen word (body_outcome yes_part) (body_outcome no_part)) store readings) v
 
--- the states with one more, as it is pushed
-pub state_pushed : (c : Core) (arrays : List Array) (next : ℕ) (words : List (List ℕ)) (store : Store) (states new : List State)
-    → arrays ≡ c.arrays → words ≡ kept_words arrays store → new ≡ states ++ state_with next words ∷ []
-    → new ≡ states ++ shown c next store ∷ []
-state_pushed c arrays next words store states new same kept pushed =
-    pushed ∙ ap (λ w. states ++ state_with next w ∷ []) (kept ∙ ap (λ a. kept_words a store) same)
+-- where the word of the condition isn't 0, the first body runs
+pub run_holds : (s : CoreStmt) (store : Store) (readings : List ℕ) (c : CoreExpr) (yes_part no_part got : List CoreStmt) (word : ℕ) (o : Outcome (Unit {0}))
+    → s ≡ stmt.If c yes_part no_part → value_of c store ≡ Ok word → word ≢ 0 → got ≡ yes_part → o ≡ body_outcome got store readings → o ≡ statement_outcome s store readings
+run_holds s store readings c yes_part no_part got word o is v some same ran =
+    ran ∙ ap (λ b. body_outcome b store readings) same ∙ sym (if_at s store readings c yes_part no_part (Ok word) is v ∙ ap (λ f. f store readings) (chosen_first word some (body_outcome yes_part) (body_outcome no_part)))
 
--- one task more, by what it does
-run_steps : (c : Core) (n m number : ℕ) (store : Store) (r : Result Turn ℕ)
-    → n ≡ suc m → turn_of c number store ≡ r → walk_from c n number store ≡ goes_on c r (walk_from c m)
-unfolding walk_from
-run_steps c n m number store r e h = ap (λ k. walk_from c k number store) e ∙ ap (λ t. goes_on c t (walk_from c m)) h
+-- and where it is 0, the second
+pub run_fails : (s : CoreStmt) (store : Store) (readings : List ℕ) (c : CoreExpr) (yes_part no_part got : List CoreStmt) (word : ℕ) (o : Outcome (Unit {0}))
+    → s ≡ stmt.If c yes_part no_part → value_of c store ≡ Ok word → word ≡ 0 → got ≡ no_part → o ≡ body_outcome got store readings → o ≡ statement_outcome s store readings
+run_fails s store readings c yes_part no_part got word o is v none same ran =
+    ran ∙ ap (λ b. body_outcome b store readings) same ∙ sym (if_at s store readings c yes_part no_part (Ok word) is v ∙ ap (λ w. chosen w (body_outcome yes_part) (body_outcome no_part) store readings) none)
 
-ends_here : (states : List State) (w : Walked) (end : WalkEnd) → w ≡ ends end → run_of states end ≡ after_states states w
-ends_here states w end e = ap (λ xs. run_of xs end) (sym (append-nil states)) ∙ ap (after_states states) (sym e)
+-- a block
+pub run_block : (s : CoreStmt) (store : Store) (readings : List ℕ) (site : ℕ) (body got : List CoreStmt) (o : Outcome (Unit {0}))
+    → s ≡ stmt.Block site body → got ≡ body → o ≡ body_outcome got store readings → o ≡ statement_outcome s store readings
+run_block s store readings site body got o is same ran =
+    ran ∙ ap (λ b. body_outcome b store readings) same ∙ sym (ap (λ x. statement_outcome x store readings) is ∙ ap (λ f. f store readings) (walk_block halted site body (ended tt)))
 
-pub run_traps : (c : Core) (tasks ended number code : ℕ) (store : Store) (states : List State) (whole : Walked)
-    → IsUnderWay c tasks ended number store states whole → ended < tasks → turn_of c number store ≡ Err code
-    → run_of states (Trapped code) ≡ whole
-run_traps c tasks ended number code store states whole h more turn =
-    ends_here states _ (Trapped code) (run_steps c (tasks - ended) (tasks - (ended + 1)) number store _ (omega arith) turn) ∙ h.whole_is
+-- the first statement of a body, by how it ended
+pub first_ran : (s : CoreStmt) (rest : List CoreStmt) (store after : Store) (readings left : List ℕ) (r q : Result (Unit {0}) EarlyEnd)
+    → outcome_of r after left ≡ statement_outcome s store readings → r ≡ q
+    → body_outcome (s ∷ rest) store readings ≡ from_outcome halted (outcome_of q after left) (λ _. body_outcome rest)
+first_ran s rest store after readings left r q ran was =
+    after_statement halted s (body_outcome rest) store readings
+    ∙ ap (λ o. from_outcome halted o (λ _. body_outcome rest)) (sym ran)
+    ∙ ap (λ x. from_outcome halted (outcome_of x after left) (λ _. body_outcome rest)) was
 
-goes_from : (c : Core) (states : List State) (state : State) (w rest : Walked) → w ≡ with_state state rest
-    → after_states (states ++ state ∷ []) rest ≡ after_states states w
-goes_from c states state w rest e = ap (λ xs. run_of xs rest.end) (append_assoc states (state ∷ []) rest.states) ∙ ap (after_states states) (sym e)
+-- a statement within a body, by how it ended
+pub body_step : (body : List CoreStmt) (i : ℕ) (d s : CoreStmt) (store after : Store) (readings left : List ℕ) (r q : Result (Unit {0}) EarlyEnd)
+    → i < length body → s ≡ get_or body i d → outcome_of r after left ≡ statement_outcome s store readings → r ≡ q
+    → body_outcome (drop i body) store readings ≡ from_outcome halted (outcome_of q after left) (λ _. body_outcome (drop (i + 1) body))
+body_step body i d s store after readings left r q there is ran was =
+    at_drop_more (λ b. body_outcome b store readings) body i d there
+    ∙ ap (λ x. body_outcome (x ∷ drop (i + 1) body) store readings) (sym is)
+    ∙ first_ran s (drop (i + 1) body) store after readings left r q ran was
 
-unless_at : (next : ℕ) (w : Walked) → 0 < next → unless_stopped next w ≡ w
-unless_at zero w h = absurd (omega arith)
-unless_at (suc n) w h = refl
+-- a task, by how its body ended
+pub task_ran : (c : Core) (t : CoreTask) (store begun after : Store) (readings left : List ℕ) (r q : Result (Unit {0}) EarlyEnd)
+    → begun ≡ fresh c store → outcome_of r after left ≡ body_outcome t.body begun readings → r ≡ q
+    → task_outcome c t store readings ≡ from_outcome halted (outcome_of q after left) (λ _. exit_walk halted t.exit ended)
+task_ran c t store begun after readings left r q is ran was =
+    after_body halted t.body (exit_walk halted t.exit ended) (fresh c store) readings
+    ∙ ap (λ s. from_outcome halted (body_outcome t.body s readings) (λ _. exit_walk halted t.exit ended)) (sym is)
+    ∙ ap (λ o. from_outcome halted o (λ _. exit_walk halted t.exit ended)) (sym ran)
+    ∙ ap (λ x. from_outcome halted (outcome_of x after left) (λ _. exit_walk halted t.exit ended)) was
 
-shape_after : (c : Core) (number next : ℕ) (store after : Store) → HasShape c.arrays store → turn_of c number store ≡ Ok (make_turn after next) → HasShape c.arrays after
-shape_after c number next store after shape turn = subst (HasEnded c.arrays) turn (turn_keeps c number store shape)
-
-pub run_goes_on : (c : Core) (tasks ended number next : ℕ) (store after : Store) (states : List State) (whole : Walked)
-    → IsUnderWay c tasks ended number store states whole → ended < tasks → turn_of c number store ≡ Ok (make_turn after next) → 0 < next
-    → (new : List State) → new ≡ states ++ shown c next after ∷ [] → IsUnderWay c tasks (ended + 1) next after new whole
-run_goes_on c tasks ended number next store after states whole h more turn on new pushed =
-    let m = tasks - (ended + 1) in
-    let step = run_steps c (tasks - ended) m number store _ (omega arith) turn ∙ ap (with_state (shown c next after)) (unless_at next (walk_from c m next after) on) in
-    record { some = on; shape = shape_after c number next store after h.shape turn; whole_is = ap (λ s. after_states s (walk_from c m next after)) pushed ∙ goes_from c states (shown c next after) _ _ step ∙ h.whole_is }
-
-pub run_stops : (c : Core) (tasks ended number next : ℕ) (store after : Store) (states : List State) (whole : Walked)
-    → IsUnderWay c tasks ended number store states whole → ended < tasks → turn_of c number store ≡ Ok (make_turn after next) → next ≡ 0
-    → (new : List State) → new ≡ states ++ shown c next after ∷ [] → run_of new Stopped ≡ whole
-run_stops c tasks ended number next store after states whole h more turn stop new pushed =
-    let m = tasks - (ended + 1) in
-    let step = run_steps c (tasks - ended) m number store _ (omega arith) turn
-    ∙ ap (λ n. with_state (shown c next after) (unless_stopped n (walk_from c m next after))) stop in
-    ap (λ xs. run_of xs Stopped) (pushed ∙ sym (append-nil (states ++ shown c next after ∷ [])))
-    ∙ goes_from c states (shown c next after) _ (ends Stopped) step ∙ h.whole_is
-
-pub run_is_over : (c : Core) (tasks ended number : ℕ) (store : Store) (states : List State) (whole : Walked)
-    → IsUnderWay c tasks ended number store states whole → tasks ≤ ended → run_of states Limit ≡ whole
-unfolding walk_from
-run_is_over c tasks ended number store states whole h over =
-    let none : tasks - ended ≡ 0 = omega arith in
-    ends_here states _ Limit (ap (λ n. walk_from c n number store) none) ∙ h.whole_is
+-- and by how its exit ended
+pub task_left : (c : Core) (t : CoreTask) (store begun after : Store) (readings left : List ℕ) (r : Result (Unit {0}) EarlyEnd) (unit : Unit {0}) (e q : Result ℕ Trap)
+    → begun ≡ fresh c store → outcome_of r after left ≡ body_outcome t.body begun readings → r ≡ Ok unit → e ≡ next_of t.exit after → e ≡ q
+    → task_outcome c t store readings ≡ on_found halted q ended after left
+task_left c t store begun after readings left r unit e q is ran was leads ends =
+    task_ran c t store begun after readings left r (Ok unit) is ran was
+    ∙ exit_runs halted t.exit ended after left
+    ∙ ap (λ x. on_found halted x ended after left) (sym leads ∙ ends)

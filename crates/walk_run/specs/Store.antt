@@ -1,69 +1,104 @@
--- The store of a run: the words of each array, by its number.
-use Rattle.std.specs.Prelude.{◌≡◌, ℕ, ◌+◌, List, [], ◌∷◌, map, length, slice_index, slice_index_or, slice_set, Result, Ok, Err, nat_lt, if◌then◌else◌}
+-- The store of a run: the words of each array and the place of each pointer, by their numbers.
+use Rattle.std.specs.Prelude.{◌≡◌, ◌<◌, ℕ, List, [], ◌∷◌, map, length, slice_index, slice_index_or, slice_set, Option, Some, None, IfSome}
+use Rattle.std.specs.List.{AllByRecursion}
 use Rattle.task_ast.specs.declared.tree.Kind.{Kind}
 use Rattle.task_ast.specs.declared.tree.Kind.TheVariants.{Nv, Const, Vol}
 use Rattle.task_ast.specs.declared.core_form.Array.{Array}
+use Rattle.task_ast.specs.declared.core_form.Core.{Core}
+use Rattle.walk_run.specs.declared.place.Place.{Place}
 
--- the words of each array, by its number
-abbrev pub Store : Type 0
-Store = List (List ℕ)
+-- the words of each array; the place that each pointer points to, or nothing
+pub record Store : Type 0 where
+  pub words : List (List ℕ)
+  pub pointers : List (Option Place)
 
--- the store that a program starts with: each array as it is declared
-abbrev pub declared_store : List Array → Store
-declared_store arrays = map (λ a. a.first) arrays
+-- a place by its two numbers
+abbrev pub place : (array index : ℕ) → Place
+place array index = record { array = array; index = index }
+
+-- pointers that point to nothing
+abbrev pub unset : {A : Type 0} → List A → List (Option Place)
+unset names = map (λ _. None) names
+
+-- the store that a program starts with
+abbrev pub declared_store : Core → Store
+declared_store c = record { words = map (λ a. a.first) c.arrays; pointers = unset c.pointers }
 
 -- the words of an array; none where there is no such array
-abbrev pub words_of : Store → ℕ → List ℕ
-words_of store array = slice_index_or store array []
+abbrev pub words_of : Store → (array : ℕ) → List ℕ
+words_of store array = slice_index_or store.words array []
 
--- the place of an array that an index names; trap 1 where the index isn't below the array's length
-abbrev pub place_of : Store → ℕ → ℕ → Result ℕ ℕ
-place_of store array index = if nat_lt index (length (words_of store array)) then Ok index else Err 1
+-- the word at a place
+abbrev pub word_at : Store → Place → ℕ
+word_at store at = slice_index (words_of store at.array) at.index
 
--- the word at a place of an array
-abbrev pub word_at : Store → ℕ → ℕ → ℕ
-word_at store array place = slice_index (words_of store array) place
+-- words of arrays, with another word at a place
+abbrev pub with_word : Place → (word : ℕ) → List (List ℕ) → List (List ℕ)
+with_word at word words = slice_set words at.array (slice_set (slice_index_or words at.array []) at.index word)
 
--- the store with another word at a place of an array
-abbrev pub written : Store → ℕ → ℕ → ℕ → Store
-written store array place word = slice_set store array (slice_set (words_of store array) place word)
+-- the store with another word at a place
+abbrev pub put_word : Place → (word : ℕ) → Store → Store
+put_word at word store = record store { words = with_word at word store.words }
 
--- each array has as many words as are declared
-abbrev pub HasShape : List Array → Store → Type 0
-HasShape arrays store = map length store ≡ map (λ a. length a.first) arrays
+-- the place that a pointer points to; nothing where there is no such pointer
+abbrev pub pointed : Store → (pointer : ℕ) → Option Place
+pointed store pointer = slice_index_or store.pointers pointer None
+
+-- the store with a pointer that points to a place
+abbrev pub put_pointer : (pointer : ℕ) → Place → Store → Store
+put_pointer pointer at store = record store { pointers = slice_set store.pointers pointer (Some at) }
 
 -- the words of an array when a task begins: those of a volatile one are as declared
-abbrev pub fresh_words : Kind → List ℕ → List ℕ → List ℕ
+abbrev pub fresh_words : Kind → (first words : List ℕ) → List ℕ
 fresh_words Vol first words = first
 fresh_words Nv first words = words
 fresh_words Const first words = words
 
--- the store with one array as it is when a task begins
-abbrev pub with_fresh : Array → ℕ → Store → Store
-with_fresh a number store = slice_set store number (fresh_words a.kind a.first (words_of store number))
+-- the words of all arrays when a task begins
+abbrev pub fresh_arrays : List Array → List (List ℕ) → List (List ℕ)
+fresh_arrays [] words = words
+fresh_arrays (a ∷ arrays) [] = []
+fresh_arrays (a ∷ arrays) (w ∷ words) = fresh_words a.kind a.first w ∷ fresh_arrays arrays words
 
--- the store when a task begins: volatile arrays are as they are declared
-abbrev pub refreshed : List Array → Store → Store
-refreshed [] store = store
-refreshed (a ∷ arrays) [] = []
-refreshed (a ∷ arrays) (words ∷ store) = fresh_words a.kind a.first words ∷ refreshed arrays store
+-- the store when a task begins: volatile arrays are as declared, and pointers point to nothing
+abbrev pub fresh : Core → Store → Store
+fresh c store = record { words = fresh_arrays c.arrays store.words; pointers = unset c.pointers }
 
--- an array is kept from task to task, and isn't constant: these are the arrays that a state shows
-abbrev pub first_if_kept : {A : Type 0} → Kind → A → List A → List A
-first_if_kept Nv x rest = x ∷ rest
-first_if_kept Const x rest = rest
-first_if_kept Vol x rest = rest
+-- a state shows an array that is kept from task to task and isn't constant
+abbrev pub first_if_shown : {A : Type 0} → Kind → A → List A → List A
+first_if_shown Nv x rest = x ∷ rest
+first_if_shown Const x rest = rest
+first_if_shown Vol x rest = rest
 
--- the words of the kept ones of these arrays, the first of which has this number
-abbrev pub kept_from : List Array → ℕ → Store → List (List ℕ)
-kept_from [] number store = []
-kept_from (a ∷ arrays) number store = first_if_kept a.kind (words_of store number) (kept_from arrays (number + 1) store)
+-- the words that a state shows, in the order of their arrays' declarations
+abbrev pub shown_words : List Array → List (List ℕ) → List (List ℕ)
+shown_words [] words = []
+shown_words (a ∷ arrays) [] = []
+shown_words (a ∷ arrays) (w ∷ words) = first_if_shown a.kind w (shown_words arrays words)
 
--- the words of all kept arrays, in the order of their declarations
-abbrev pub kept_words : List Array → Store → List (List ℕ)
-kept_words arrays store = kept_from arrays 0 store
+-- the names of the arrays that a state shows, in the order of their declarations
+abbrev pub shown_names : List Array → List (List ℕ)
+shown_names [] = []
+shown_names (a ∷ arrays) = first_if_shown a.kind a.name (shown_names arrays)
 
--- the names of all kept arrays, in the order of their declarations
-abbrev pub kept_names : List Array → List (List ℕ)
-kept_names [] = []
-kept_names (a ∷ arrays) = first_if_kept a.kind a.name (kept_names arrays)
+-- a place lies in its array
+abbrev pub IsInside : Store → Place → Type 0
+IsInside store at = at.index < length (words_of store at.array)
+
+-- each array has as many words as are declared
+abbrev pub HasShape : List Array → List (List ℕ) → Type 0
+HasShape arrays words = map length words ≡ map (λ a. length a.first) arrays
+
+-- A store of a program: its arrays with their lengths, and its pointers, each at nothing or at a place inside an array.
+pub record Fits (c : Core) (store : Store) : Type 0 where
+  pub shape : HasShape c.arrays store.words
+  pub count : length store.pointers ≡ length c.pointers
+  pub inside : AllByRecursion (λ p. IfSome p (IsInside store)) store.pointers
+
+-- a store of a program stays one
+abbrev pub KeepsFit : (old new : Store) → Type 0
+KeepsFit old new = (c : Core) → Fits c old → Fits c new
+
+-- the array and the index of a place
+abbrev pub pair_of : Place → ℕ × ℕ
+pair_of at = (at.array, at.index)

@@ -2,16 +2,14 @@
 use Rattle.std.specs.Prelude.{ℕ, List, [], ◌∷◌, ◌++◌, codes}
 use Rattle.std.specs.List.{flat_map}
 use Rattle.std.specs.Fmt.{decimal}
+use Rattle.ease_base.specs.Lines.{line}
 use Rattle.task_ast.specs.declared.core_form.Core.{Core}
 use Rattle.walk_run.specs.declared.walked.WalkEnd.{WalkEnd}
 use Rattle.walk_run.specs.declared.walked.WalkEnd.TheVariants.{Stopped, Limit, Trapped, NoReading}
 use Rattle.walk_run.specs.declared.walked.State.{State}
 use Rattle.walk_run.specs.declared.walked.Walked.{Walked}
-use Rattle.walk_run.specs.Store.{kept_names}
-
--- a text with a line feed behind it
-abbrev pub line : List ℕ → List ℕ
-line text = text ++ 10 ∷ []
+use Rattle.walk_run.specs.Store.{shown_names}
+use Rattle.walk_run.specs.Trap.{code_of}
 
 -- a word after a space
 abbrev pub word_text : ℕ → List ℕ
@@ -27,7 +25,7 @@ array_lines [] words = []
 array_lines (name ∷ names) [] = []
 array_lines (name ∷ names) (first ∷ words) = array_line name first ++ array_lines names words
 
--- a state: the next task, and the kept arrays
+-- a state: the next task, and the arrays that it shows
 unfoldable pub state_text : List (List ℕ) → State → List ℕ
 state_text names s = line (codes "commit " ++ decimal s.next) ++ array_lines names s.words
 
@@ -35,9 +33,9 @@ state_text names s = line (codes "commit " ++ decimal s.next) ++ array_lines nam
 abbrev pub end_text : WalkEnd → List ℕ
 end_text Stopped = codes "end stopped"
 end_text Limit = codes "end limit"
-end_text (Trapped code) = codes "end trapped " ++ decimal code
+end_text (Trapped trap) = codes "end trapped " ++ decimal (code_of trap)
 end_text NoReading = codes "end reading"
 
 -- each state in turn, then the end
 unfoldable pub text_of : Core → Walked → List ℕ
-text_of c w = flat_map (state_text (kept_names c.arrays)) w.states ++ line (end_text w.end)
+text_of c w = flat_map (state_text (shown_names c.arrays)) w.states ++ line (end_text w.end)

@@ -1,102 +1,82 @@
-//! Statements, exits and tasks, which write the store.
-ghost use Rattle.std.specs.Prelude.{◌≡◌, ◌<◌};
-ghost use Rattle.walk_run.specs.Ended.{store_ended, turn_ended};
-ghost use Rattle.walk_run.specs.Task.{assigned, turns_done, statement_done, body_done, next_of, task_run, turn_of};
-ghost use Rattle.walk_run.specs.Store.{HasShape};
+//! The run of a task: its statements with the readings that are left, then its exit.
+ghost use Rattle.std.specs.Prelude.{◌≡◌, IfOk};
+ghost use Rattle.task_ast.specs.WellFormed.{IsWellFormed};
+ghost use Rattle.walk_run.specs.Exits.{next_of};
+ghost use Rattle.walk_run.specs.Outcome.{outcome_of, statement_outcome, body_outcome, task_outcome};
+ghost use Rattle.walk_run.specs.Store.{Fits};
 
-use crate::store::Store;
-use crate::value::{NOT_YET, value};
-use task_ast::{Core, CoreExit, CoreExpr, CoreStmt, CoreTask};
+use crate::calls::call;
+use crate::live::Live;
+use crate::readings::Readings;
+use crate::trap::Trap;
+use crate::walked::EarlyEnd;
+use task_ast::{Core, CoreExit, CoreStmt, CoreTask};
 
-/// Runs the task with this number, from 1, which begins with volatile arrays as they are declared. Gives the next
-/// task, 0 for `STOP`, or the code of the trap.
-pub fn run_turn(c: &Core, number: u32, store: &mut Store) -> Result<u32, u32>
-    requires number { 0 < number }
-    requires shape { HasShape c.now.arrays store.old }
-    ensures { turn_ended result store.new ≡ turn_of c.now number store.old }
+/// Runs a task, which begins with volatile arrays as declared and pointers at nothing. Gives the next task, 0 for
+/// `STOP`.
+pub fn run_task(
+    c: &Core,
+    task: &CoreTask,
+    live: &mut Live,
+    readings: &mut Readings,
+) -> Result<u32, EarlyEnd>
+    requires { Fits c.now live.old }
+    ensures { outcome_of result live.new readings.new ≡ task_outcome c.now task.now live.old readings.old }
 {
-    store.refresh(c.arrays.as_slice());
-    match c.tasks.get(number as usize - 1) {
-        Some(task) => run_task(task, store),
-        None => Err(NOT_YET),
-    }
-}
-
-fn run_task(task: &CoreTask, store: &mut Store) -> Result<u32, u32>
-    ensures { turn_ended result store.new ≡ task_run task.now store.old }
-{
-    run_body(task.body.as_slice(), store)?;
-    next_task(&task.exit, store)
+    live.begin(c);
+    run_body(task.body.as_slice(), live, readings)?;
+    let next = next_task(&task.exit, live)?;
+    Ok(next)
 }
 
 #[cycle(statements)]
-fn run_body(body: &[CoreStmt], store: &mut Store) -> Result<(), u32>
-    ensures { store_ended result store.new ≡ body_done body.now store.old }
+fn run_body(body: &[CoreStmt], live: &mut Live, readings: &mut Readings) -> Result<(), EarlyEnd>
+    ensures { outcome_of result live.new readings.new ≡ body_outcome body.now live.old readings.old }
 {
     'statements: for statement in body {
-        run_statement(statement, store)?;
+        run_statement(statement, live, readings)?;
     }
     Ok(())
 }
 
 #[cycle(statements)]
-fn run_statement(statement: &CoreStmt, store: &mut Store) -> Result<(), u32>
-    ensures { store_ended result store.new ≡ statement_done statement.now store.old }
+fn run_statement(s: &CoreStmt, live: &mut Live, readings: &mut Readings) -> Result<(), EarlyEnd>
+    ensures { outcome_of result live.new readings.new ≡ statement_outcome s.now live.old readings.old }
 {
-    match statement {
-        CoreStmt::Assign(array, index, e) => assign(*array, index, e, store),
+    match s {
+        CoreStmt::Assign(_, _) | CoreStmt::Point(_, _, _) | CoreStmt::Loop(_, _, _) => {
+            live.plain(s)?;
+            Ok(())
+        }
         CoreStmt::If(condition, yes_part, no_part) => {
-            let word = value(condition, store)?;
+            let word = live.value(condition)?;
             if word != 0 {
-                run_body(yes_part.as_slice(), store)
+                run_body(yes_part.as_slice(), live, readings)
             } else {
-                run_body(no_part.as_slice(), store)
+                run_body(no_part.as_slice(), live, readings)
             }
         }
-        CoreStmt::Loop(variable, turns, body) => run_turns(
-            *variable,
-            *turns,
-            body.as_slice(),
-            store,
-        ),
-        _ => Err(NOT_YET),
+        CoreStmt::Io(_, target, _, args) => call(target, args.as_slice(), live, readings),
+        CoreStmt::Block(_, body) => run_body(body.as_slice(), live, readings),
+        CoreStmt::Copy(_, to, from, words) => {
+            live.copy(to, from, words)?;
+            Ok(())
+        }
     }
 }
 
-// Runs the turns of a loop: before each its variable is its number, behind the last the number of all turns.
-#[cycle(statements)]
-fn run_turns(variable: u32, turns: u32, body: &[CoreStmt], store: &mut Store) -> Result<(), u32>
-    ensures { store_ended result store.new ≡ turns_done (body_done body.now) variable 0 turns store.old }
-{
-    'turns: for turn in 0..turns {
-        store.set(variable, turn);
-        run_body(body, store)?;
-    }
-    store.set(variable, turns);
-    Ok(())
-}
-
-fn assign(array: u32, index: &CoreExpr, e: &CoreExpr, store: &mut Store) -> Result<(), u32>
-    ensures { store_ended result store.new ≡ assigned array index.now e.now store.old }
-{
-    let index = value(index, store)?;
-    let place = store.place(array, index)?;
-    let word = value(e, store)?;
-    store.write(array, place, word);
-    Ok(())
-}
-
-fn next_task(exit: &CoreExit, store: &Store) -> Result<u32, u32>
-    ensures { result ≡ next_of exit.now store.now }
+// The task to which an exit leads, 0 for `STOP`.
+fn next_task(exit: &CoreExit, live: &Live) -> Result<u32, Trap>
+    ensures { result ≡ next_of exit.now live.now }
 {
     match exit {
         CoreExit::Next(task) => Ok(*task),
         CoreExit::Stop => Ok(0),
         CoreExit::Choose(condition, yes_part, no_part) => {
-            if value(condition, store)? != 0 {
-                next_task(yes_part.get(), store)
+            if live.value(condition)? != 0 {
+                next_task(yes_part.get(), live)
             } else {
-                next_task(no_part.get(), store)
+                next_task(no_part.get(), live)
             }
         }
     }

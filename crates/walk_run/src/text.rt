@@ -1,8 +1,9 @@
 //! The printed text of a run.
 ghost use Rattle.std.specs.Prelude.{◌≡◌, ◌++◌, IfOk, OnOk};
 ghost use Rattle.std.specs.List.{flat_map};
-ghost use Rattle.walk_run.specs.Store.{kept_names};
-ghost use Rattle.walk_run.specs.WalkText.{line, word_text, array_line, array_lines, state_text, end_text, text_of};
+ghost use Rattle.ease_base.specs.Lines.{line};
+ghost use Rattle.walk_run.specs.Store.{shown_names};
+ghost use Rattle.walk_run.specs.WalkText.{word_text, array_line, array_lines, state_text, end_text, text_of};
 
 use crate::walked::{State, WalkEnd, Walked};
 use ease_base::{NoMemory, Text, Words, put_number};
@@ -25,7 +26,7 @@ pub fn walk_text(alloc: Global, c: &Core, w: &Walked) -> Result<Text, NoMemory>
 
 #[tactic(auto, using(std::proofs::Common::append_assoc), unfolding(crate::specs::WalkText::state_text))]
 fn put_state(out: &mut Text, arrays: &[Array], state: &State) -> Result<(), NoMemory>
-    ensures { OnOk result (out.new ≡ out.old ++ state_text (kept_names arrays.now) state.now) }
+    ensures { OnOk result (out.new ≡ out.old ++ state_text (shown_names arrays.now) state.now) }
 {
     out.extend(b"commit ")?;
     put_number(out, u64::from(state.next))?;
@@ -34,7 +35,7 @@ fn put_state(out: &mut Text, arrays: &[Array], state: &State) -> Result<(), NoMe
 }
 
 fn put_arrays(out: &mut Text, arrays: &[Array], words: &[Words]) -> Result<(), NoMemory>
-    ensures { OnOk result (out.new ≡ out.old ++ array_lines (kept_names arrays.now) words.now) }
+    ensures { OnOk result (out.new ≡ out.old ++ array_lines (shown_names arrays.now) words.now) }
 {
     let mut left = words;
     'arrays: for array in arrays {
@@ -76,9 +77,9 @@ fn put_end(out: &mut Text, end: WalkEnd) -> Result<(), NoMemory>
     match end {
         WalkEnd::Stopped => out.extend(b"end stopped\n"),
         WalkEnd::Limit => out.extend(b"end limit\n"),
-        WalkEnd::Trapped(code) => {
+        WalkEnd::Trapped(trap) => {
             out.extend(b"end trapped ")?;
-            put_number(out, u64::from(code))?;
+            put_number(out, u64::from(trap.code()))?;
             out.push(b'\n')?;
             Ok(())
         }

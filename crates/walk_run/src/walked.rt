@@ -1,21 +1,43 @@
 //! What a run leaves: its states, and how it ended.
+ghost use Rattle.std.specs.Prelude.{◌≡◌};
+
+use crate::trap::Trap;
 use ease_base::{List, Words};
 
+/// What ends a run within a task.
+#[derive(Clone, Copy, PartialEq, Eq)]
+pub enum EarlyEnd {
+    /// A value traps.
+    Trapped(Trap),
+    /// A call finds no reading left.
+    NoReading,
+}
+
+impl From<Trap> for EarlyEnd {
+    ghost use Rattle.walk_run.specs.declared.walked.EarlyEnd.TheVariants.{Trapped as trapped};
+
+    ghost from_gives = { λ trap e. e ≡ trapped trap };
+
+    fn from(trap: Trap) -> EarlyEnd {
+        EarlyEnd::Trapped(trap)
+    }
+}
+
 /// How a run ended.
-#[derive(Clone, Copy, Debug, PartialEq, Eq)]
+#[derive(Clone, Copy, PartialEq, Eq)]
 pub enum WalkEnd {
     /// The last task stopped.
     Stopped,
     /// As many tasks ended as were asked for, and none stopped.
     Limit,
-    /// The next task traps: 1 for an index that isn't below its array's length, 2 for a divisor of 0.
-    Trapped(u32),
+    /// The next task traps.
+    Trapped(Trap),
     /// The next task's call finds no reading left.
     NoReading,
 }
 
 /// The state after a task.
-#[derive(Debug, Drop)]
+#[derive(Drop)]
 pub struct State {
     /// The next task, from 1; 0 after `STOP`.
     pub next: u32,
@@ -24,7 +46,7 @@ pub struct State {
 }
 
 /// A run: the state after each task that ended, and how the run ended.
-#[derive(Debug, Drop)]
+#[derive(Drop)]
 pub struct Walked {
     pub states: List<State>,
     pub end: WalkEnd,

@@ -9,7 +9,9 @@ use Rattle.word_isa.specs.Entries.{span, meet, symbol_passes, first_bad_symbol}
 use Rattle.word_isa.specs.FirstFailing.{first_failing}
 use Rattle.word_isa.specs.Marks.{mark_passes, first_bad_mark}
 use Rattle.word_isa.specs.Names.{is_name_token, is_reserved, is_symbol_name}
-use Rattle.word_isa.specs.declared.parts.Mark.{Mark}
+use Rattle.word_isa.specs.declared.mark.Mark.{Mark}
+use Rattle.word_isa.specs.declared.mark.MarkKind.{MarkKind}
+use Rattle.word_isa.specs.declared.mark.MarkKind.TheVariants.{Begin, Look}
 use Rattle.word_isa.specs.declared.parts.Scheme.TheVariants.{Undo, Bank}
 use Rattle.word_isa.specs.declared.parts.Symbol.{Symbol}
 
@@ -55,19 +57,45 @@ second_bank_meets : first_bad_symbol (span 0 0) 1 (nonvolatile (codes "a") 0 1 �
 unfolding first_failing symbol_passes is_symbol_name is_name_token is_reserved place_of reserved_words
 second_bank_meets = refl
 
--- LDI and TIME, with a begin and a look
-abbrev mark : ℕ → ℕ → ℕ → Mark
-mark at kind site = record { at = at; kind = kind; site = site }
+-- marks of version 1, and of task 3 in version 2
+abbrev mark : ℕ → MarkKind → ℕ → Mark
+mark at kind site = record { at = at; kind = kind; site = site; task = 0 }
 
-begin_and_look : first_bad_mark (0x02100007 ∷ 0x17200000 ∷ []) (mark 0 1 1 ∷ mark 1 2 1 ∷ []) ≡ None
+abbrev mark_of_3 : ℕ → MarkKind → ℕ → Mark
+mark_of_3 at kind site = record { at = at; kind = kind; site = site; task = 3 }
+
+-- LDI and TIME, with a begin and a look
+begin_and_look : first_bad_mark 1 (0x02100007 ∷ 0x17200000 ∷ []) (mark 0 Begin 1 ∷ mark 1 Look 255 ∷ []) ≡ None
 unfolding first_failing mark_passes decoded
 begin_and_look = refl
 
 -- two marks at one address, and a look at an LDI
-same_address : first_bad_mark (0x02100007 ∷ 0x17200000 ∷ []) (mark 0 1 1 ∷ mark 0 1 1 ∷ []) ≡ Some 1
+same_address : first_bad_mark 1 (0x02100007 ∷ 0x17200000 ∷ []) (mark 0 Begin 1 ∷ mark 0 Begin 1 ∷ []) ≡ Some 1
 unfolding first_failing mark_passes decoded
 same_address = refl
 
-look_at_load : first_bad_mark (0x02100007 ∷ 0x17200000 ∷ []) (mark 0 2 1 ∷ []) ≡ Some 0
+look_at_load : first_bad_mark 1 (0x02100007 ∷ 0x17200000 ∷ []) (mark 0 Look 1 ∷ []) ≡ Some 0
 unfolding first_failing mark_passes decoded
 look_at_load = refl
+
+-- the begin of a task names it, and a site is at most 128
+begin_of_3 : first_bad_mark 2 (0x02100007 ∷ 0x17200000 ∷ []) (mark_of_3 0 Begin 3 ∷ mark_of_3 1 Look 128 ∷ []) ≡ None
+unfolding first_failing mark_passes decoded
+begin_of_3 = refl
+
+begin_of_another : first_bad_mark 2 (0x02100007 ∷ 0x17200000 ∷ []) (mark_of_3 0 Begin 2 ∷ []) ≡ Some 0
+unfolding first_failing mark_passes decoded
+begin_of_another = refl
+
+site_129 : first_bad_mark 2 (0x02100007 ∷ 0x17200000 ∷ []) (mark_of_3 0 Begin 3 ∷ mark_of_3 1 Look 129 ∷ []) ≡ Some 1
+unfolding first_failing mark_passes decoded
+site_129 = refl
+
+-- version 1 names no task, and version 2 does
+task_in_version_1 : first_bad_mark 1 (0x02100007 ∷ []) (mark_of_3 0 Begin 3 ∷ []) ≡ Some 0
+unfolding first_failing mark_passes decoded
+task_in_version_1 = refl
+
+no_task_in_version_2 : first_bad_mark 2 (0x02100007 ∷ []) (mark 0 Begin 1 ∷ []) ≡ Some 0
+unfolding first_failing mark_passes decoded
+no_task_in_version_2 = refl

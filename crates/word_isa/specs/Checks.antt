@@ -1,10 +1,14 @@
--- The tests of an image's counts, its code words, its stride and its kept words (docs/MACHINE.md, "The image's tests").
-use Rattle.std.specs.Prelude.{ℕ, ◌+◌, Bool, true, ◌&&◌, ◌==◌, nat_le, nat_lt, List, Option, Some, None, if◌then◌else◌}
+-- The tests of an image's version, counts, its code words, its stride and its kept words (docs/MACHINE.md, "The image's tests").
+use Rattle.std.specs.Prelude.{ℕ, ◌+◌, Bool, true, ◌&&◌, ◌||◌, ◌==◌, nat_le, nat_lt, List, Option, Some, None, if◌then◌else◌}
 use Rattle.std.specs.List.{position}
 use Rattle.std.specs.Option.{is_none}
 use Rattle.word_isa.specs.Decoding.{decoded}
 use Rattle.word_isa.specs.declared.parts.Scheme.{Scheme}
 use Rattle.word_isa.specs.declared.parts.Scheme.TheVariants.{Undo, Bank}
+
+-- an image has version 1 or 2
+abbrev pub version_passes : ℕ → Bool
+version_passes version = (version == 1) || (version == 2)
 
 -- the first count past its limit, in the order of the file
 abbrev pub first_too_large : (code fram symbols peripherals marks : ℕ) → Option ℕ

@@ -1,4 +1,5 @@
 pub mod Checks
+pub mod Codes
 pub mod Decoding
 pub mod Entries
 pub mod Fields

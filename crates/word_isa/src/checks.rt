@@ -1,9 +1,16 @@
-//! The tests of an image's counts, code words, stride and kept words.
-ghost use Rattle.std.specs.Prelude.{◌≡◌};
+//! The tests of an image's version, counts, code words, stride and kept words.
+ghost use Rattle.std.specs.Prelude.{◌≡◌, ◌<◌, IfSome, length};
 ghost use Rattle.word_isa.specs.Checks as spec;
 
 use crate::encoding::decode;
 use crate::parts::Scheme;
+
+/// Whether the version of an image is 1 or 2.
+pub fn version_passes(version: u8) -> bool
+    ensures { result ≡ spec.version_passes version }
+{
+    version == 1 || version == 2
+}
 
 /// The first of these counts, in their order, that is past its limit: 4194304 code words, 65536 words of FRAM, 256 symbols,
 /// 256 peripherals and 2097152 marks.
@@ -34,7 +41,8 @@ pub fn first_too_large(
 /// The place of the first word, from 0, that no row has.
 #[tactic(auto, unfolding(crate::specs::Checks::first_bad_word))]
 pub fn first_bad_word(code: &[u32]) -> Option<usize>
-    ensures { result ≡ spec.first_bad_word code.now }
+    ensures value { result ≡ spec.first_bad_word code.now }
+    ensures within { IfSome result (λ at. at < length code.now) }
 {
     code.iter().position(|word| decode(*word).is_none())
 }

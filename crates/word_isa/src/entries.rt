@@ -1,5 +1,5 @@
 //! The tests of an image's symbols and peripherals.
-ghost use Rattle.std.specs.Prelude.{◌≡◌, ◌==◌, []};
+ghost use Rattle.std.specs.Prelude.{◌≡◌, ◌==◌, ◌<◌, [], IfSome, length};
 ghost use Rattle.std.specs.List.{list_any};
 ghost use Rattle.std.specs.Str.{bytes_eq};
 ghost use Rattle.word_isa.specs.Entries as spec;
@@ -19,7 +19,8 @@ pub fn first_bad_symbol(
     stride: u16,
     symbols: &[Symbol],
 ) -> Option<usize>
-    ensures { result ≡ spec.first_bad_symbol (spec.span keep keep_words) stride symbols.now }
+    ensures value { result ≡ spec.first_bad_symbol (spec.span keep keep_words) stride symbols.now }
+    ensures within { IfSome result (λ at. at < length symbols.now) }
 {
     first_bad_beside(
         Span::new(u64::from(keep), u32::from(keep_words)),
@@ -30,7 +31,8 @@ pub fn first_bad_symbol(
 
 // The place of the first bad symbol beside kept words in this range.
 fn first_bad_beside(kept: Span, stride: u16, symbols: &[Symbol]) -> Option<usize>
-    ensures { result ≡ spec.first_bad_symbol kept stride symbols.now }
+    ensures value { result ≡ spec.first_bad_symbol kept stride symbols.now }
+    ensures within { IfSome result (λ at. at < length symbols.now) }
 {
     'symbols: for at in 0..symbols.len() {
         if !symbol_passes(kept, stride, &symbols[..at], &symbols[at]) {
@@ -43,7 +45,8 @@ fn first_bad_beside(kept: Span, stride: u16, symbols: &[Symbol]) -> Option<usize
 /// The place of the first bad peripheral, from 0, behind these symbols. A peripheral is bad where its name can't stand or
 /// stands before, or where its number does.
 pub fn first_bad_peripheral(symbols: &[Symbol], peripherals: &[Peripheral]) -> Option<usize>
-    ensures { result ≡ spec.first_bad_peripheral symbols.now peripherals.now }
+    ensures value { result ≡ spec.first_bad_peripheral symbols.now peripherals.now }
+    ensures within { IfSome result (λ at. at < length peripherals.now) }
 {
     'peripherals: for at in 0..peripherals.len() {
         if !peripheral_passes(symbols, &peripherals[..at], &peripherals[at]) {

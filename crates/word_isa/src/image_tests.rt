@@ -1,7 +1,8 @@
 //! Parts of images that pass or fail their tests, and the smallest image.
 use crate::{
-    Image, Mark, Scheme, Symbol, banks_pass, first_bad_mark, first_bad_peripheral,
-    first_bad_symbol, first_bad_word, first_too_large,
+    Mark, MarkKind, Scheme, Symbol, banks_pass, first_bad_mark, first_bad_peripheral,
+    first_bad_symbol, first_bad_word, first_too_large, kind_code, kind_of, unnamed_image,
+    version_passes,
 };
 use ease_base::{List, NoMemory, Peripheral, Text, Words};
 use std::alloc::Global;
@@ -139,65 +140,102 @@ fn a_mark_stands_at_an_instruction_of_its_kind(rt: HostRuntime) {
         0x0100_0000,
     ];
     let table = [
-        (1, 2, 1, None),
-        (2, 3, 1, None),
-        (3, 4, 1, None),
-        (3, 6, 1, None),
-        (3, 8, 0, None),
-        (4, 5, 1, None),
-        (5, 7, 255, None),
-        (3, 4, 0, Some(1)),
-        (3, 7, 1, Some(1)),
-        (0, 1, 1, Some(1)),
-        (6, 0, 1, Some(1)),
-        (6, 9, 1, Some(1)),
-        (7, 8, 1, Some(1)),
+        (1, MarkKind::Look, 1, None),
+        (2, MarkKind::Kept, 1, None),
+        (3, MarkKind::Drop, 1, None),
+        (3, MarkKind::Seal, 1, None),
+        (3, MarkKind::Commit, 0, None),
+        (4, MarkKind::Issue, 1, None),
+        (5, MarkKind::Copy, 255, None),
+        (3, MarkKind::Drop, 0, Some(1)),
+        (3, MarkKind::Copy, 1, Some(1)),
+        (0, MarkKind::Begin, 1, Some(1)),
+        (6, MarkKind::Begin, 1, Some(1)),
+        (7, MarkKind::Commit, 1, Some(1)),
     ];
     for (at, kind, site, want) in table {
         let begin = Mark {
             at: 0,
-            kind: 1,
+            kind: MarkKind::Begin,
             site: 1,
+            task: 0,
         };
-        let marks = [begin, Mark { at, kind, site }];
+        let second = Mark {
+            at,
+            kind,
+            site,
+            task: 0,
+        };
         assert_eq!(rt;
-            first_bad_mark(&code, &marks),
+            first_bad_mark(1, &code, &[begin, second]),
             want,
-            "at {at} {kind} {site}"
+            "at {at} {site}"
         );
     }
 }
 
-// The image of this code and nothing else; None where a test of an image fails.
-fn bare_image(alloc: Global, code: Words) -> Option<Image> {
-    let fram = Words::new(alloc);
-    let Ok(count) = u32::try_from(code.len()) else {
-        return None;
-    };
-    let None = first_too_large(count, 0, 0, 0, 0) else {
-        return None;
-    };
-    let None = first_bad_word(code.as_slice()) else {
-        return None;
-    };
-    Some(Image {
-        scheme: Scheme::Undo,
-        state: 0,
-        stride: 0,
-        keep: 0,
-        keep_words: 0,
-        code,
-        fram,
-        symbols: List::new(alloc),
-        peripherals: List::new(alloc),
-        marks: List::new(alloc),
-    })
+#[test]
+fn a_mark_of_version_2_names_a_task(rt: HostRuntime) {
+    let code = [0x0210_0007, 0x1720_0000];
+    let table = [
+        (1, MarkKind::Look, 1, 1, None),
+        (1, MarkKind::Look, 128, 64, None),
+        (1, MarkKind::Look, 129, 1, Some(0)),
+        (1, MarkKind::Look, 1, 0, Some(0)),
+        (1, MarkKind::Look, 1, 65, Some(0)),
+        (0, MarkKind::Begin, 64, 64, None),
+        (0, MarkKind::Begin, 1, 2, Some(0)),
+    ];
+    for (at, kind, site, task, want) in table {
+        let mark = Mark {
+            at,
+            kind,
+            site,
+            task,
+        };
+        assert_eq!(rt;
+            first_bad_mark(2, &code, &[mark]),
+            want,
+            "at {at} {site} {task}"
+        );
+        let version_1 = if task == 0 { None } else { Some(0) };
+        assert_eq!(rt;
+            first_bad_mark(1, &code, &[mark]),
+            version_1,
+            "at {at} {site} {task}"
+        );
+    }
+}
+
+#[test]
+fn bytes_stand_for_versions_schemes_and_kinds(rt: HostRuntime) {
+    let versions = [(0, false), (1, true), (2, true), (3, false)];
+    for (version, passes) in versions {
+        assert_eq!(rt; version_passes(version), passes, "at {version}");
+    }
+    assert_eq!(rt; Scheme::of(1), Some(Scheme::Bank));
+    assert_eq!(rt; Scheme::of(2), None);
+    assert_eq!(rt; Scheme::Bank.code(), 1);
+    assert!(rt; kind_of(2) == Some(Kind::Vol));
+    assert!(rt; kind_of(3) == None);
+    assert_eq!(rt; kind_code(Kind::Const), 1);
+    assert_eq!(rt; MarkKind::of(0), None);
+    assert_eq!(rt; MarkKind::of(6), Some(MarkKind::Seal));
+    assert_eq!(rt; MarkKind::of(9), None);
+    assert_eq!(rt; MarkKind::Commit.code(), 8);
 }
 
 #[test]
 fn an_image_is_made_of_code_whose_words_have_rows(rt: HostRuntime) {
-    let halt = Words::from_slice(rt.alloc(), &[0x0100_0000]).expect(&rt, "memory");
-    assert!(rt; bare_image(rt.alloc(), halt).is_some());
-    let zero = Words::from_slice(rt.alloc(), &[0]).expect(&rt, "memory");
-    assert!(rt; bare_image(rt.alloc(), zero).is_none());
+    let table = [(0x0100_0000, true), (0, false), (0x0110_0000, false)];
+    for (word, made) in table {
+        let code = Words::from_slice(rt.alloc(), &[word]).expect(&rt, "memory");
+        let image = unnamed_image(
+            rt.alloc(),
+            code,
+            Words::new(rt.alloc()),
+            List::new(rt.alloc()),
+        );
+        assert_eq!(rt; image.is_some(), made, "at {word}");
+    }
 }

@@ -6,7 +6,7 @@ abbrev pub invariant-loop-sent : goal.invariant-loop-sent
 invariant-loop-sent g l = record {
   within : l.sent ≤ length l.piece;
   taken : g.K.Sink.taken l.out ≡ extended (g.K.Sink.taken l.initial.out) (take l.sent l.piece);
-  faults : g.K.Sink.faults l.initial.out ≤ g.K.Sink.faults l.out;
+  faults : g.K.Sink.faults l.out ≡ g.K.Sink.faults l.initial.out;
 }
 
 abbrev pub decreases-loop-sent : goal.decreases-loop-sent

@@ -1,30 +1,29 @@
 use Rattle.std.proofs.lemmas.Result.{err_from_is_err_and}
-use Rattle.task_check.specs.Table.{meanings}
-use Rattle.task_check.proofs.StatementLemmas.{if_first, if_second, if_made, loop_body, loop_made}
+use Rattle.std.proofs.Common.{refl}
+use Rattle.task_check.specs.Table.{around_of}
+use Rattle.task_check.proofs.StatementLemmas.{if_faults, block_faults, loop_faults, loop_head}
+use Rattle.task_check.proofs.FirstLemmas.{finds_front, finds_behind, finds_same, second_of_three, third_of_three}
 use Rattle.task_check.proofs.statements.+check_stmts.Goals as goal
 
-pub check_stmt-returns-in_err-yes_part-in-If : goal.check_stmt-returns-in_err-yes_part-in-If
-check_stmt-returns-in_err-yes_part-in-If t c =
-    let p = err_from_is_err_and c.from_residual-in_err-yes_part-in-If.result c.from_residual-in_err-yes_part-in-If.ensures.1 in
-    rw (p.1, p.2) (if_first (meanings c.args.names.now) _ _ _ _ _ c.in-If.is _ c.as_slice.ensures _ c.in_ok-c-in-If.ensures.0 c.in_err-yes_part-in-If.ensures)
+pub check_stmt-returns-in_err-check_body-in-If : goal.check_stmt-returns-in_err-check_body-in-If
+check_stmt-returns-in_err-check_body-in-If t c =
+    let p = err_from_is_err_and c.from_residual-in_err-check_body-in-If.result c.from_residual-in_err-check_body-in-If.ensures.1 in
+    rw (p.1, p.2) (second_of_three _ _ _ _ _ (if_faults (around_of c.args.around.now) _ _ _ _ _ _ c.in-If.is c.as_slice.ensures refl) c.in_ok-check_expr-in-If.ensures.0 c.in_err-check_body-in-If.ensures)
 
-pub check_stmt-returns-in_err-no_part-in-If : goal.check_stmt-returns-in_err-no_part-in-If
-check_stmt-returns-in_err-no_part-in-If t c =
-    let p = err_from_is_err_and c.from_residual-in_err-no_part-in-If.result c.from_residual-in_err-no_part-in-If.ensures.1 in
-    rw (p.1, p.2) (if_second (meanings c.args.names.now) _ _ _ _ _ c.in-If.is _ _ c.as_slice.ensures c.as_slice-in-If.ensures c.in_ok-c-in-If.ensures.0 c.in_ok-yes_part-in-If.ensures.0 _ c.in_err-no_part-in-If.ensures)
+pub check_stmt-returns-in_ok-check_body-in-If : goal.check_stmt-returns-in_ok-check_body-in-If
+check_stmt-returns-in_ok-check_body-in-If t c =
+    third_of_three _ _ _ _ _ (if_faults (around_of c.args.around.now) _ _ _ _ _ _ c.in-If.is c.as_slice.ensures c.as_slice-in-If.ensures)
+    c.in_ok-check_expr-in-If.ensures.0 c.in_ok-check_body-in-If.ensures.0 c.check_body-in-If.ensures
 
-pub check_stmt-returns-in_ok-push-in-If : goal.check_stmt-returns-in_ok-push-in-If
-check_stmt-returns-in_ok-push-in-If t c =
-    if_made (meanings c.args.names.now) _ _ _ _ _ c.in-If.is _ _ c.as_slice.ensures c.as_slice-in-If.ensures c.in_ok-c-in-If.ensures.0 c.in_ok-yes_part-in-If.ensures.0
-    _ _ _ _ _ c.in_ok-no_part-in-If.ensures.0 c.in_ok-c-in-If.ensures.1 c.in_ok-yes_part-in-If.ensures.1 c.in_ok-no_part-in-If.ensures.1 c.in_ok-push-in-If.ensures.ok
+pub check_stmt-returns-in_err-inside-in-For : goal.check_stmt-returns-in_err-inside-in-For
+check_stmt-returns-in_err-inside-in-For t c =
+    let p = err_from_is_err_and c.from_residual-in_err-inside-in-For.result c.from_residual-in_err-inside-in-For.ensures.1 in
+    rw (p.1, p.2) (finds_front _ _ _ _ (loop_head (around_of c.args.around.now) _ _ _ _ _ _ _ _ c.in-For.is c.as_slice-in-For.ensures c.body_has_sites-unrolled.ensures) c.in_err-inside-in-For.ensures)
 
-pub check_stmt-returns-in_err-body-in-For : goal.check_stmt-returns-in_err-body-in-For
-check_stmt-returns-in_err-body-in-For t c =
-    let p = err_from_is_err_and c.from_residual-in_err-body-in-For.result c.from_residual-in_err-body-in-For.ensures.1 in
-    rw (p.1, p.2) (loop_body (meanings c.args.names.now) _ _ _ _ _ _ _ c.in-For.is _ _ _ _ c.as_slice-in-For.ensures c.in_ok-turning-in-For.ensures c.in_ok-i-in-For.ensures.1 c.as_slice-in-For-2.ensures
-    c.in_ok-may_nest-in-For.ensures.0 c.in_ok-i-in-For.ensures.0 c.in_ok-may_turn-in-For.ensures.0 _ c.in_err-body-in-For.ensures)
+pub check_stmt-returns-in_ok-inside-in-For : goal.check_stmt-returns-in_ok-inside-in-For
+check_stmt-returns-in_ok-inside-in-For t c =
+    finds_behind _ _ _ _ (loop_faults (around_of c.args.around.now) _ _ _ _ _ _ _ _ _ _ _ _ c.in-For.is c.as_slice-in-For.ensures c.body_has_sites-unrolled.ensures c.as_slice-in-For-3.ensures
+    c.as_slice-in-For-2.ensures c.in_ok-inside-in-For.ensures.1.0 c.in_ok-inside-in-For.ensures.1.1) c.in_ok-inside-in-For.ensures.0 c.check_body-in-For.ensures
 
-pub check_stmt-returns-in_ok-push-in-For : goal.check_stmt-returns-in_ok-push-in-For
-check_stmt-returns-in_ok-push-in-For t c =
-    loop_made (meanings c.args.names.now) _ _ _ _ _ _ _ c.in-For.is _ _ _ _ c.as_slice-in-For.ensures c.in_ok-turning-in-For.ensures c.in_ok-i-in-For.ensures.1 c.as_slice-in-For-2.ensures
-    c.in_ok-may_nest-in-For.ensures.0 c.in_ok-i-in-For.ensures.0 c.in_ok-may_turn-in-For.ensures.0 _ _ _ c.in_ok-body-in-For.ensures.0 c.in_ok-body-in-For.ensures.1 c.in_ok-push-in-For.ensures.ok
+pub check_stmt-returns-in-Block : goal.check_stmt-returns-in-Block
+check_stmt-returns-in-Block t c = finds_same _ _ _ (block_faults (around_of c.args.around.now) _ _ _ _ _ c.in-Block.is c.as_slice-in-Block.ensures) c.check_body-in-Block.ensures

@@ -6,9 +6,9 @@ use Rattle.task_text.proofs.read.read_program.Goals as goal
 pub returns : goal.returns
 returns c = record {
   found = found-from _ _ c.read.ensures;
-  only = only-from _ _ c.read.ensures;
+  only = only-from c.one_division.ensures _ _ c.read.ensures;
   refused = refused-from _ _ c.read.ensures;
-  breaks = breaks-from _ _ c.read.ensures;
-  wide = wide-from _ _ c.read.ensures;
-  readable = readable-from _ _ (omega (arith, c.requires)) c.read.ensures;
+  breaks = breaks-from c.one_division.ensures _ _ c.read.ensures;
+  wide = wide-from c.one_division.ensures _ _ c.read.ensures;
+  readable = readable-from c.tokens_are_fair.ensures.fair c.tokens_are_fair.ensures.few _ _ (omega (arith, c.requires)) c.read.ensures;
 }

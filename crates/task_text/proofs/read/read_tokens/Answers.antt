@@ -1,8 +1,6 @@
-use Rattle.std.proofs.Common.{sym, ap, subst, ◌∙◌, Err}
+use Rattle.std.proofs.Common.{sym, ap, ◌∙◌}
 use Rattle.task_text.specs.ReadingProgram.{program_at}
-use Rattle.task_text.specs.Reads.{IsReading}
-use Rattle.task_text.specs.declared.error.TextError.TheVariants.{Syntax}
-use Rattle.task_text.proofs.ReadLaws.{reading-found, reading-refused}
+use Rattle.task_text.proofs.ReadLaws.{reading-found, none-read}
 use Rattle.task_text.proofs.read.read_tokens.Goals as goal
 
 pub returns-in-Ok : goal.returns-in-Ok
@@ -11,4 +9,4 @@ returns-in-Ok c = reading-found _ _ c.args.end _ (ap program_at (sym c.new-curso
 pub returns-in-Err-Syntax : goal.returns-in-Err-Syntax
 returns-in-Err-Syntax c =
     let e = rw c.in-Err-Syntax.field-0-is at c.in-Err-Syntax.ensures in
-    subst (λ at. IsReading c.args.tokens.now c.args.end (Err (Syntax at))) (sym c.place.ensures) (reading-refused _ _ c.args.end (ap program_at (sym c.new-cursor.ensures) ∙ e))
+    (none-read _ _ (ap program_at (sym c.new-cursor.ensures) ∙ e), c.place_of.ensures)

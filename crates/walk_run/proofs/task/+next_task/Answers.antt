@@ -1,7 +1,7 @@
 -- A choice, by its condition.
 use Rattle.std.proofs.Common.{sym, ◌∙◌}
 use Rattle.std.proofs.lemmas.Result.{err_from_is_err_and}
-use Rattle.walk_run.proofs.Steps.{choose_traps, choose_holds, choose_fails}
+use Rattle.walk_run.proofs.Choices.{choose_traps, choose_holds, choose_fails}
 use Rattle.walk_run.proofs.task.+next_task.Goals as goal
 
 pub returns-in_err-value-in-Choose : goal.returns-in_err-value-in-Choose

@@ -1,6 +1,6 @@
 use Rattle.std.proofs.Common.{sym, subst, ◌∙◌}
 use Rattle.task_text.specs.Reading.{Gives}
-use Rattle.task_text.proofs.StmtSteps.{exit-choose, exit-leave}
+use Rattle.task_text.proofs.ExitLaws.{exit-choose, exit-leave}
 use Rattle.task_text.proofs.cursor.Cursor.+exit.Goals as goal
 
 pub exit-returns-then-begins_reserved : goal.exit-returns-then-begins_reserved

@@ -1,6 +1,6 @@
 use Rattle.std.proofs.Common.{sym, subst, ◌∙◌, refl}
 use Rattle.std.proofs.lemmas.Result.{err_from_is_err_and}
-use Rattle.task_text.specs.declared.token.Keyword.TheVariants as keyword
+use Rattle.task_tokens.specs.declared.token.Keyword.TheVariants as keyword
 use Rattle.task_text.specs.Reading.{begins_reserved}
 use Rattle.task_text.specs.ReadingProgram.{task_at, tasks_at}
 use Rattle.task_text.proofs.Items.{Items, Items-more, Items-break, Items-all}

@@ -1,5 +1,5 @@
 use Rattle.std.proofs.Common.{length}
-use Rattle.task_text.specs.declared.token.Keyword.TheVariants as keyword
+use Rattle.task_tokens.specs.declared.token.Keyword.TheVariants as keyword
 use Rattle.task_text.specs.Reading.{begins_reserved}
 use Rattle.task_text.specs.ReadingProgram.{task_at, tasks_at}
 use Rattle.task_text.proofs.Items.{Items}

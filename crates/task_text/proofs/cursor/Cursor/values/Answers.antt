@@ -1,6 +1,6 @@
 use Rattle.std.proofs.Common.{[], ◌∷◌, ◌++◌, sym, ap, subst, ◌∙◌, refl}
 use Rattle.std.proofs.lemmas.Result.{err_from_is_err_and}
-use Rattle.task_text.specs.declared.token.Sign.TheVariants as sign
+use Rattle.task_tokens.specs.declared.token.Sign.TheVariants as sign
 use Rattle.task_text.specs.Reading.{begins_sign}
 use Rattle.task_text.specs.ReadingDecl.{next_value_at, values_at}
 use Rattle.task_text.proofs.Items.{Items, Items-more, Items-break, Items-all}

@@ -1,5 +1,5 @@
 use Rattle.std.proofs.Common.{length}
-use Rattle.task_text.specs.declared.token.Sign.TheVariants as sign
+use Rattle.task_tokens.specs.declared.token.Sign.TheVariants as sign
 use Rattle.task_text.specs.Reading.{begins_sign}
 use Rattle.task_text.specs.ReadingDecl.{next_value_at, values_at}
 use Rattle.task_text.proofs.Items.{Items}

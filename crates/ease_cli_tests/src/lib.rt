@@ -1,0 +1,13 @@
+//! Tests of `ease`: words and files in memory, and what they write.
+#![tactic(auto)]
+
+#[cfg(test)]
+mod commands;
+#[cfg(test)]
+mod limits;
+#[cfg(test)]
+mod refusals;
+#[cfg(test)]
+mod site_refusals;
+#[cfg(test)]
+mod walks;

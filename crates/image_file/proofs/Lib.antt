@@ -1,0 +1,10 @@
+pub mod AnswerLemmas
+pub mod FieldLemmas
+pub mod FormatLaws
+pub mod ImageLaws
+pub mod ImageLemmas
+pub mod LayoutLaws
+pub mod NumberLaws
+pub mod PutLemmas
+pub mod ReadLemmas
+pub mod TypedLemmas

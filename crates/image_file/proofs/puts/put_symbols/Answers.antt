@@ -1,0 +1,6 @@
+use Rattle.std.proofs.Common.{arith}
+use Rattle.image_file.proofs.PutLemmas.{all_written}
+use Rattle.image_file.proofs.puts.put_symbols.Goals as goal
+
+pub returns : goal.returns
+returns c = all_written c.items.out c.args.out.now 2 c.items.s-index _ _ c.args.symbols.now c.items.invariant (omega (arith, c.items-test.false))

@@ -1,0 +1,9 @@
+pub mod Fairs
+pub mod Lexemes
+pub mod PrintSteps
+pub mod PrintedDecls
+pub mod PrintedExprs
+pub mod PrintedLaw
+pub mod PrintedPrograms
+pub mod PrintedStmts
+pub mod Prints

@@ -1,0 +1,14 @@
+pub mod Bytes
+pub mod CutComplete
+pub mod CutLemmas
+pub mod CutSound
+pub mod Decimals
+pub mod DivisionLaws
+pub mod DivisionSteps
+pub mod Examples
+pub mod FairTokens
+pub mod Numerals
+pub mod ReservedWords
+pub mod SpacedTexts
+pub mod Tables
+pub mod Totality

@@ -1,0 +1,4 @@
+mod Examples
+mod LoadingLemmas
+mod RegisterLemmas
+mod StepLemmas

@@ -1,0 +1,14 @@
+pub mod Events
+pub mod Held
+pub mod Instructions
+pub mod Loading
+pub mod Places
+pub mod PowerLaws
+pub mod RunLaws
+pub mod Runs
+pub mod State
+pub mod Step
+pub mod Straight
+pub mod TraceLaws
+pub mod Traces
+pub mod TransferLaws
