@@ -1,0 +1,31 @@
+-- Command lines and their forms, computed.
+use Rattle.std.proofs.Common.{◌≡◌, true, false, [], ◌∷◌, refl, codes}
+use Rattle.std.specs.Fmt.{digits}
+use Rattle.std.specs.Prelude.{Some, None}
+use Rattle.command_line.specs.Form.{walk, run, walk_in, run_in, form_of}
+use Rattle.command_line.specs.Line.{line_from, value_from}
+
+-- options stand anywhere before `--`, and behind it every word is a place
+brief_first : form_of (codes "--brief" ∷ codes "run" ∷ codes "i" ∷ codes "w" ∷ []) ≡ Some (run (codes "i") (codes "w") true)
+unfolding form_of line_from value_from run_in
+brief_first = refl
+
+brief_is_a_file : form_of (codes "run" ∷ codes "--" ∷ codes "i" ∷ codes "--brief" ∷ []) ≡ Some (run (codes "i") (codes "--brief") false)
+unfolding form_of line_from value_from run_in
+brief_is_a_file = refl
+
+walk_has_no_option : form_of (codes "walk" ∷ codes "--brief" ∷ codes "a" ∷ codes "5" ∷ []) ≡ None
+unfolding form_of line_from value_from walk_in
+walk_has_no_option = refl
+
+one_line_alone : form_of (codes "walk" ∷ codes "-" ∷ codes "7" ∷ codes "w" ∷ []) ≡ Some (walk (codes "-") 7 (Some (codes "w")))
+unfolding form_of line_from value_from walk_in digits
+one_line_alone = refl
+
+no_leading_zero : form_of (codes "walk" ∷ codes "a" ∷ codes "01" ∷ []) ≡ None
+unfolding form_of line_from value_from walk_in digits
+no_leading_zero = refl
+
+no_help : form_of (codes "--help" ∷ []) ≡ None
+unfolding form_of line_from value_from walk_in
+no_help = refl

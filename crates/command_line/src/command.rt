@@ -1,0 +1,129 @@
+//! What a command line asks for: one row for each command; docs/COMMANDS.md lists them.
+ghost use Rattle.std.specs.Prelude.{◌≡◌, ◌≤◌, ℕ, map, slice_get, decimal, option_map, string_bytes, IfOk, IfSome, IfNone};
+ghost use Rattle.command_line.specs.Line.{Line};
+ghost use Rattle.command_line.specs.Parsed.{IsLine};
+ghost use Rattle.command_line.specs.Form as spec;
+
+use crate::line::{Words, read_words};
+use ease_base::{NoMemory, digits};
+use std::alloc::Global;
+
+/// What a command line asks for, with the names of its files in the order of the words.
+#[derive(Clone, Copy, Debug, PartialEq, Eq)]
+pub enum Command<'a> {
+    /// `walk PROGRAM N [WORLD]`: at most so many tasks, 0 to 1,000.
+    Walk {
+        program: &'a str,
+        tasks: u32,
+        world: Option<&'a str>,
+    },
+    /// `run IMAGE WORLD [--brief]`.
+    Run {
+        image: &'a str,
+        world: &'a str,
+        brief: bool,
+    },
+}
+
+/// What the words of a command line ask for; None exactly where they are none of the forms.
+#[tactic(auto, using(crate::proofs::FormLaws::form_of_line, crate::proofs::FormLaws::form_of_none))]
+pub fn command_of<'a>(alloc: Global, words: &'a [String]) -> Result<Option<Command<'a>>, NoMemory>
+    ensures { IfOk result (λ c. option_map spec.seen c ≡ spec.form_of (map string_bytes words.now)) }
+{
+    match read_words(alloc, words)? {
+        Some(read) => Ok(command_in(&read)),
+        None => Ok(None),
+    }
+}
+
+// What a line asks for, by its first positional.
+fn command_in<'a>(words: &Words<'a>) -> Option<Command<'a>>
+    ensures { (l : Line) → IsLine words.now l → option_map spec.seen result ≡ spec.form_in l }
+{
+    match words.command {
+        Some(command) => asked_by(command, words),
+        None => None,
+    }
+}
+
+// What a command asks for with its options.
+fn asked_by<'a>(command: &str, words: &Words<'a>) -> Option<Command<'a>>
+    ensures { option_map spec.seen result ≡ spec.asked_by command.now (map (λ s. s.now) words.now.args.items) words.now.brief (option_map (λ s. s.now) words.now.scheme) }
+{
+    let args = words.args.as_slice();
+    if command == "walk" {
+        if words.brief || words.scheme.is_some() {
+            return None;
+        }
+        return walk_in(args);
+    }
+    if command == "run" {
+        if words.scheme.is_some() {
+            return None;
+        }
+        return run_in(args, words.brief);
+    }
+    None
+}
+
+#[tactic(auto, unfolding(crate::specs::Form::walk_in))]
+fn walk_in<'a>(args: &[&'a str]) -> Option<Command<'a>>
+    ensures { option_map spec.seen result ≡ spec.walk_in (map (λ s. s.now) args.now) }
+{
+    if args.len() > 3 {
+        return None;
+    }
+    let program = text_at(args, 0)?;
+    let tasks = number_in(text_at(args, 1)?, 1000)?;
+    Some(Command::Walk {
+        program,
+        tasks,
+        world: text_at(args, 2),
+    })
+}
+
+#[tactic(auto, unfolding(crate::specs::Form::run_in))]
+fn run_in<'a>(args: &[&'a str], brief: bool) -> Option<Command<'a>>
+    ensures { option_map spec.seen result ≡ spec.run_in (map (λ s. s.now) args.now) brief }
+{
+    if args.len() > 2 {
+        return None;
+    }
+    let image = text_at(args, 0)?;
+    let world = text_at(args, 1)?;
+    Some(Command::Run {
+        image,
+        world,
+        brief,
+    })
+}
+
+#[tactic(auto, using(crate::proofs::FormLaws::text_seen))]
+fn text_at<'a>(args: &[&'a str], at: usize) -> Option<&'a str>
+    ensures { option_map (λ s. s.now) result ≡ slice_get (map (λ s. s.now) args.now) at }
+{
+    args.get(at).copied()
+}
+
+// The number, at most `most`, whose decimal digits the word is.
+fn number_in(word: &str, most: u32) -> Option<u32>
+    ensures { result ≡ spec.number_in most word.now }
+{
+    number_of(word, most)
+}
+
+// The same, by the digits of each number.
+fn number_of(word: &str, most: u32) -> Option<u32>
+    ensures found { IfSome result (λ n. (n ≤ most) × (word.now ≡ decimal n)) }
+    ensures none { IfNone result ((n : ℕ) → n ≤ most → word.now ≡ decimal n → ⊥) }
+{
+    let Ok(n) = word.parse::<u32>() else {
+        return None;
+    };
+    let mut text = [0; 20];
+    let count = digits(u64::from(n), &mut text);
+    if n > most || &text[..count] != word.as_bytes() {
+        return None;
+    }
+    Some(n)
+}
