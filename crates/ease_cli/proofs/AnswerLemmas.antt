@@ -1,109 +1,143 @@
--- From what is said of a tree to what is said of its source, and on to what the command line says.
-use Rattle.std.proofs.Common.{◌≡◌, ℕ, List, Option, Result, Ok, Err, IfOk, sym, subst, ◌∙◌}
-use Rattle.std.proofs.lemmas.Result.{IfOk-weaker}
-use Rattle.ease_base.specs.Sink.{extended}
-use Rattle.task_ast.specs.declared.tree.Program.{Program}
-use Rattle.task_text.specs.declared.error.TextError.{TextError}
-use Rattle.task_check.specs.Faults.{Accepted}
-use Rattle.task_text.specs.Reads.{Reads, Refuses}
+-- From what the parts of a command answer to what the command says.
+use Rattle.std.proofs.Common.{◌≡◌, ℕ, ◌<◌, ◌≤◌, Bool, List, [], ◌∷◌, ◌++◌, length, take, Option, Some, None, Result, Ok, Err, refl, sym, ap, subst, ◌∙◌, arith, inl, inr}
+use Rattle.std.proofs.lemmas.List.{take_all}
+use Rattle.command_line.specs.Form.{Form, walk, run}
+use Rattle.devices.specs.declared.event.RunEnd.{RunEnd}
+use Rattle.devices.specs.declared.event.RunEnd.TheVariants as run_end
+use Rattle.devices.specs.declared.world.World.{World}
+use Rattle.ease_base.specs.Sink.{extended, TookFront}
+use Rattle.ease_cli.specs.Answer.{Answers, Tells, AreRead, IsRead, Reaches, Stops, unbrought, refused, Says, stopped, done, IsUsage, LineSays, Writes, TellsFetchFault}
+use Rattle.ease_cli.specs.Files.{Files, Kind, source_file, image_file, world_file, Wanted, named, named_if, wanted, limit_of, IsQuiet, IsUnbrought, failed, long}
+use Rattle.ease_cli.specs.Inputs.{Input, tree, image, world, refused_status, IsRefused}
+use Rattle.ease_cli.specs.Output.{IsOutput, walks, runs, IsWalkOutput, IsRunOutput, walk_status, run_status}
+use Rattle.ease_cli.specs.declared.refusal.Refusal.{Refusal}
+use Rattle.ease_cli.specs.declared.refusal.Refusal.TheVariants as refusal
 use Rattle.ease_cli.specs.declared.status.Status.{Status}
-use Rattle.ease_cli.specs.declared.status.Status.TheVariants as status
-use Rattle.ease_cli.specs.Answer.{ProgramSays, SourceSays, Says, Files, NoneWasLong, run_status, IsRun, Writes, IsAccepted, ProgramSettles, SourceSettles, Settles, IsSource, unread, unaccepted}
+use Rattle.ease_cli.specs.declared.status.Status.TheVariants as ends
+use Rattle.task_ast.specs.declared.core_form.Core.{Core}
+use Rattle.task_ast.specs.declared.tree.Program.{Program}
+use Rattle.task_check.specs.CheckedForm.{core_of}
 use Rattle.walk_run.specs.declared.walked.WalkEnd.{WalkEnd}
-use Rattle.walk_run.specs.declared.walked.WalkEnd.TheVariants as ends
-use Rattle.ease_cli.specs.Lines.{text_line}
+use Rattle.walk_run.specs.declared.walked.WalkEnd.TheVariants as walk_end
+use Rattle.word_isa.specs.declared.image.Image.{Image}
 
--- what is said of the tree that reads a source is said of the source
-pub source-from_program : (source : List ℕ) (program : Program) (tasks : ℕ) (s : Status) (text : List ℕ) → Reads source program → ProgramSays program tasks s text → SourceSays source tasks s text
-source-from_program source program tasks status.Ok text reads said = record { program = program; reads = reads; run = said }
-source-from_program source program tasks status.Trapped text reads said = record { program = program; reads = reads; run = said }
-source-from_program source program tasks status.SourceRefused text reads said = unaccepted program said.0 reads said.1 said.2
-source-from_program source program tasks status.Usage text reads said = said
-source-from_program source program tasks status.ReadFault text reads said = said
-source-from_program source program tasks status.WriteFault text reads said = said
-source-from_program source program tasks status.TooLong text reads said = said
-source-from_program source program tasks status.NoMemory text reads said = said
+-- what is answered of less is answered of more
+pub answers_weaker : (P Q : Status → List ℕ → Type 0) (r : Result Status Refusal) (before after : Option (List ℕ)) → ((s : Status) (t : List ℕ) → P s t → Q s t) → Answers P r before after → Answers Q r before after
+answers_weaker P Q (Ok s) before after weaker a = (a.0, weaker s a.0 a.1, a.2)
+answers_weaker P Q (Err (refusal.Refused s t)) before after weaker a = (weaker s t a.0, a.1)
+answers_weaker P Q (Err refusal.WriteFault) before after weaker a = (a.0, a.1, weaker a.0 a.1 a.2, a.3)
+answers_weaker P Q (Err refusal.NoMemory) before after weaker a = a
 
--- a refused text with its line
-pub source-from_refusal : (source : List ℕ) (tasks : ℕ) (fault : TextError) (s : Status) (text : List ℕ) → Refuses source fault → s ≡ status.SourceRefused → text ≡ text_line fault → SourceSays source tasks s text
-source-from_refusal source tasks fault s text refuses is line =
-    subst (λ (x : Status). SourceSays source tasks x text) (sym is) (unread fault refuses line)
+-- a refusal before anything is written
+pub answers_refusal : (P : Status → List ℕ → Type 0) (r : Refusal) (before after : Option (List ℕ)) → after ≡ before → Tells P r → Answers P (Err r) before after
+answers_refusal P (refusal.Refused s t) before after same told = (told, same)
+answers_refusal P refusal.WriteFault before after same told = absurd told
+answers_refusal P refusal.NoMemory before after same told = same
 
--- what is said of the source that the words name is what the command line says
-pub says-from_source : (words : List (List ℕ)) (f : Files) (tasks : ℕ) (source : List ℕ) (s : Status) (text : List ℕ) → IsSource words f tasks source → NoneWasLong f → SourceSays source tasks s text → Says words f s text
-says-from_source words f tasks source status.Ok text is none said = (none, record { tasks = tasks; source = source; is = is; said = said })
-says-from_source words f tasks source status.Trapped text is none said = (none, record { tasks = tasks; source = source; is = is; said = said })
-says-from_source words f tasks source status.SourceRefused text is none said = (none, record { tasks = tasks; source = source; is = is; said = said })
-says-from_source words f tasks source status.Usage text is none said = absurd said
-says-from_source words f tasks source status.ReadFault text is none said = absurd said
-says-from_source words f tasks source status.WriteFault text is none said = said
-says-from_source words f tasks source status.TooLong text is none said = absurd said
-says-from_source words f tasks source status.NoMemory text is none said = said
+-- a file of a command ends it
+pub says_stopped : (c : Form) (f : Files) (at : Wanted) (before : List Input) (r : Refusal) → Reaches f c at before → Tells (Stops f at before) r → Tells (Says c f) r
+says_stopped c f at before (refusal.Refused s t) reaches told = stopped at before reaches told
+says_stopped c f at before refusal.WriteFault reaches told = told
+says_stopped c f at before refusal.NoMemory reaches told = tt
 
--- the same through the result that carries the line
-pub refusal-says : {A E : Type 0} (status_of : A → Status) (text_of : A → List ℕ) (source : List ℕ) (tasks : ℕ) (fault : TextError) (line : Result (List ℕ) E) (r : Result A E) → Refuses source fault → IfOk line (λ text. text ≡ text_line fault) → IfOk r (λ a. (status_of a ≡ status.SourceRefused) × (line ≡ Ok (text_of a))) → IfOk r (λ a. SourceSays source tasks (status_of a) (text_of a))
-refusal-says status_of text_of source tasks fault (Ok text) (Ok a) refuses is made =
-    source-from_refusal source tasks fault (status_of a) (text_of a) refuses made.0 (let same : text ≡ text_of a = cc in sym same ∙ is)
-refusal-says status_of text_of source tasks fault (Err e) (Ok a) refuses is made = absurd (let made' = made.1 in cc)
-refusal-says status_of text_of source tasks fault (Ok text) (Err e) refuses is made = made
-refusal-says status_of text_of source tasks fault (Err d) (Err e) refuses is made = made
+-- ---- the order of files
 
--- what is said and then written whole is what a command writes
-pub writes-whole : (words : List (List ℕ)) (f : Files) (s : Status) (text : List ℕ) (before after : Option (List ℕ)) → Says words f s text → after ≡ extended before text → Writes (Says words f) s before after
-writes-whole words f status.Ok text before after said is = (text, said, is)
-writes-whole words f status.SourceRefused text before after said is = (text, said, is)
-writes-whole words f status.Trapped text before after said is = (text, said, is)
-writes-whole words f status.Usage text before after said is = (text, said, is)
-writes-whole words f status.ReadFault text before after said is = (text, said, is)
-writes-whole words f status.TooLong text before after said is = (text, said, is)
-writes-whole words f status.WriteFault text before after said is = absurd said
-writes-whole words f status.NoMemory text before after said is = absurd said
+pub first_reached : (f : Files) (c : Form) (at : Wanted) (rest : List Wanted) → wanted c ≡ at ∷ rest → Reaches f c at []
+first_reached f c at rest order = record { front = []; back = rest; order = order; passed = tt }
 
--- a run's answer is what is said of its tree
-pub run_says : (program : Program) (tasks : ℕ) (end : WalkEnd) (text : List ℕ) → IsRun program tasks (run_status end) text → ProgramSays program tasks (run_status end) text
-run_says program tasks (ends.Trapped trap) text run = run
-run_says program tasks ends.Stopped text run = run
-run_says program tasks ends.Limit text run = run
-run_says program tasks ends.NoReading text run = run
+pub second_reached : (f : Files) (c : Form) (first at : Wanted) (rest : List Wanted) (input : Input) → wanted c ≡ first ∷ (at ∷ rest) → IsRead f first [] input → Reaches f c at (input ∷ [])
+second_reached f c first at rest input order read = record { front = first ∷ []; back = rest; order = order; passed = (read, tt) }
 
--- and its status is right for the tree
-pub run_settles : (program : Program) (end : WalkEnd) → Accepted program → ProgramSettles program (run_status end)
-run_settles program (ends.Trapped trap) accepted = accepted
-run_settles program ends.Stopped accepted = accepted
-run_settles program ends.Limit accepted = accepted
-run_settles program ends.NoReading accepted = accepted
+-- ---- outputs
 
--- where the reader answered one program, the text is no other
-pub same-program : (a p : Program) → ◌≡◌ {A = Result Program TextError} (Ok a) (Ok p) → p ≡ a
-same-program a p same = cc
+-- `walk` without a world
+pub walk_alone : (f : Files) (program : List ℕ) (tasks : ℕ) (p : Program) (core : Core) (r : Result Status Refusal) (before after : Option (List ℕ))
+    → IsQuiet f → IsRead f (named source_file program) [] (tree p) → core ≡ core_of p
+    → Answers (IsWalkOutput core [] tasks) r before after → Answers (Says (walk program tasks None) f) r before after
+walk_alone f program tasks p core r before after quiet read is answers =
+    answers_weaker (IsWalkOutput core [] tasks) (Says (walk program tasks None) f) r before after
+    (λ s t output. done (tree p ∷ []) quiet (read, tt) (walks program tasks None p [] refl refl (subst (λ (c : Core). IsWalkOutput c [] tasks s t) is output))) answers
 
--- a reader that refused has answered no program
-pub refused-answers-none : (e : TextError) (p : Program) → ◌≡◌ {A = Result Program TextError} (Err e) (Ok p) → ⊥
-refused-answers-none e p same = cc
+-- `walk` with a world
+pub walk_with : (f : Files) (program named_world : List ℕ) (tasks : ℕ) (p : Program) (core : Core) (w : World) (readings : List ℕ) (r : Result Status Refusal) (before after : Option (List ℕ))
+    → IsQuiet f → IsRead f (named source_file program) [] (tree p) → core ≡ core_of p → IsRead f (named world_file named_world) (tree p ∷ []) (world w) → readings ≡ w.retained
+    → Answers (IsWalkOutput core readings tasks) r before after → Answers (Says (walk program tasks (Some named_world)) f) r before after
+walk_with f program named_world tasks p core w readings r before after quiet read is second fed answers =
+    answers_weaker (IsWalkOutput core readings tasks) (Says (walk program tasks (Some named_world)) f) r before after
+    (λ s t output. done (tree p ∷ (world w ∷ [])) quiet (read, second, tt)
+        (walks program tasks (Some named_world) p (world w ∷ []) refl refl
+        (subst (λ (x : List ℕ). IsWalkOutput (core_of p) x tasks s t) fed (subst (λ (c : Core). IsWalkOutput c readings tasks s t) is output)))) answers
 
--- the status of the one tree that reads a source is that of the source
-pub source-settles : (source : List ℕ) (program : Program) (s : Status) → Reads source program → ((p : Program) → Reads source p → p ≡ program) → ProgramSettles program s → SourceSettles source s
-source-settles source program status.Ok reads only settled = record { program = program; reads = reads; accepted = settled }
-source-settles source program status.Trapped reads only settled = record { program = program; reads = reads; accepted = settled }
-source-settles source program status.SourceRefused reads only settled = λ a. settled (subst Accepted (only a.program a.reads) a.accepted)
-source-settles source program status.Usage reads only settled = settled
-source-settles source program status.ReadFault reads only settled = settled
-source-settles source program status.WriteFault reads only settled = settled
-source-settles source program status.TooLong reads only settled = settled
-source-settles source program status.NoMemory reads only settled = settled
+-- `run`
+pub run_on : (f : Files) (file named_world : List ℕ) (brief : Bool) (i : Image) (w : World) (r : Result Status Refusal) (before after : Option (List ℕ))
+    → IsQuiet f → IsRead f (named image_file file) [] (image i) → IsRead f (named world_file named_world) (image i ∷ []) (world w)
+    → Answers (IsRunOutput i w brief) r before after → Answers (Says (run file named_world brief) f) r before after
+run_on f file named_world brief i w r before after quiet read second answers =
+    answers_weaker (IsRunOutput i w brief) (Says (run file named_world brief) f) r before after
+    (λ s t output. done (image i ∷ (world w ∷ [])) quiet (read, second, tt) (runs file named_world brief i w refl refl output)) answers
 
--- a refusal is the status of a source that no tree reads
-pub refusal-settles : {A E : Type 0} (status_of : A → Status) (Q : A → Type 0) (source : List ℕ) (r : Result A E) → (IsAccepted source → ⊥) → IfOk r (λ a. (status_of a ≡ status.SourceRefused) × Q a) → IfOk r (λ a. SourceSettles source (status_of a))
-refusal-settles status_of Q source r none = IfOk-weaker r (λ a. (status_of a ≡ status.SourceRefused) × Q a) (λ a. SourceSettles source (status_of a))
-    (λ a made. subst (SourceSettles source) (sym made.0) none)
+-- ---- what is said has a status of its own
 
--- a source's status is that of the command
-pub command-settles : (source : List ℕ) (s : Status) → SourceSettles source s → Settles source s
-command-settles source status.Ok settled = settled
-command-settles source status.Trapped settled = settled
-command-settles source status.SourceRefused settled = settled
-command-settles source status.Usage settled = settled
-command-settles source status.ReadFault settled = settled
-command-settles source status.WriteFault settled = settled
-command-settles source status.TooLong settled = settled
-command-settles source status.NoMemory settled = tt
+not_refused : (kind : Kind) → refused_status kind ≡ ends.NoMemory → ⊥
+not_refused source_file e = cc
+not_refused image_file e = cc
+not_refused world_file e = cc
+
+unbrought_status : (f : Files) (name : List ℕ) (limit : ℕ) (s : Status) (t : List ℕ) → IsUnbrought f name limit s t → s ≡ ends.NoMemory → ⊥
+unbrought_status f name limit s t (failed is line quiet why) e = let wrong : ends.ReadFault ≡ ends.NoMemory = sym is ∙ e in cc
+unbrought_status f name limit s t (long is line steady raised why) e = let wrong : ends.TooLong ≡ ends.NoMemory = sym is ∙ e in cc
+
+walk_ends : (e : WalkEnd) → walk_status e ≡ ends.NoMemory → ⊥
+walk_ends (walk_end.Trapped trap) is = cc
+walk_ends walk_end.Stopped is = cc
+walk_ends walk_end.Limit is = cc
+walk_ends walk_end.NoReading is = cc
+
+run_ends : (e : RunEnd) → run_status e ≡ ends.NoMemory → ⊥
+run_ends run_end.Halted is = cc
+run_ends (run_end.Trapped code) is = cc
+run_ends run_end.Power is = cc
+
+output_ends : (c : Form) (inputs : List Input) (s : Status) (t : List ℕ) → IsOutput c inputs s t → s ≡ ends.NoMemory → ⊥
+output_ends c inputs s t (walks program tasks named p rest asked read output) is = walk_ends _ (sym output.ended ∙ is)
+output_ends c inputs s t (runs file named brief i w asked read output) is = run_ends _ (sym output.ended ∙ is)
+
+stops_ends : (f : Files) (at : Wanted) (before : List Input) (s : Status) (t : List ℕ) → Stops f at before s t → s ≡ ends.NoMemory → ⊥
+stops_ends f at before s t (unbrought why) is = unbrought_status f at.name (limit_of at.kind) s t why is
+stops_ends f at before s t (refused quiet vain) is = not_refused at.kind (sym vain.refused.status_is ∙ is)
+
+says_ends : (c : Form) (f : Files) (s : Status) (t : List ℕ) → Says c f s t → s ≡ ends.NoMemory → ⊥
+says_ends c f s t (stopped at before reaches why) is = stops_ends f at before s t why is
+says_ends c f s t (done inputs quiet read output) is = output_ends c inputs s t output is
+
+line_ends : (form : Option Form) (f : Files) (s : Status) (t : List ℕ) → LineSays form f s t → s ≡ ends.NoMemory → ⊥
+line_ends None f s t usage is = let wrong : ends.Usage ≡ ends.NoMemory = sym usage.status_is ∙ is in cc
+line_ends (Some c) f s t says is = says_ends c f s t says is
+
+-- ---- what is written
+
+-- what is said and then written whole
+pub writes_whole : (form : Option Form) (f : Files) (s : Status) (t : List ℕ) (before after : Option (List ℕ)) → LineSays form f s t → after ≡ extended before t → Writes (LineSays form f) s before after
+writes_whole form f ends.Ok t before after said is = (t, said, is)
+writes_whole form f ends.Usage t before after said is = (t, said, is)
+writes_whole form f ends.SourceRefused t before after said is = (t, said, is)
+writes_whole form f ends.WorldRefused t before after said is = (t, said, is)
+writes_whole form f ends.ImageRefused t before after said is = (t, said, is)
+writes_whole form f ends.ReadFault t before after said is = (t, said, is)
+writes_whole form f ends.TooLong t before after said is = (t, said, is)
+writes_whole form f ends.Trapped t before after said is = (t, said, is)
+writes_whole form f ends.PowerEnded t before after said is = (t, said, is)
+writes_whole form f ends.WriteFault t before after said is = (ends.WriteFault, t, said, length t, omega arith, is ∙ ap (extended before) (sym (take_all (length t) t (omega arith))))
+writes_whole form f ends.NoMemory t before after said is = absurd (line_ends form f ends.NoMemory t said refl)
+
+-- a command that answered a status has written its output
+pub writes_output : (form : Option Form) (f : Files) (s : Status) (before after : Option (List ℕ)) → Answers (LineSays form f) (Ok s) before after → Writes (LineSays form f) s before after
+writes_output form f s before after a = writes_whole form f s a.0 before after a.1 a.2
+
+-- a command that answered a refusal writes its line, or a front of it
+pub writes_line : (form : Option Form) (f : Files) (s : Status) (t sent : List ℕ) (before mid after : Option (List ℕ)) → Answers (LineSays form f) (Err (refusal.Refused s t)) before mid → sent ≡ t → after ≡ extended mid sent → Writes (LineSays form f) s before after
+writes_line form f s t sent before mid after a same is = writes_whole form f s t before after a.0 (is ∙ ap (λ (o : Option (List ℕ)). extended o sent) a.1 ∙ ap (extended before) same)
+
+pub writes_front : (form : Option Form) (f : Files) (s : Status) (t sent : List ℕ) (before mid after : Option (List ℕ)) → Answers (LineSays form f) (Err (refusal.Refused s t)) before mid → sent ≡ t → TookFront mid after sent → Writes (LineSays form f) ends.WriteFault before after
+writes_front form f s t sent before mid after a same took =
+    (s, t, a.0, subst (λ (x : List ℕ). TookFront before after x) same (subst (λ (o : Option (List ℕ)). TookFront o after sent) a.1 took))

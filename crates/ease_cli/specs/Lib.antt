@@ -1,4 +1,7 @@
 pub mod Answer
-pub mod Form
+pub mod Files
+pub mod Inputs
 pub mod Lines
+pub mod Output
+pub mod Settled
 pub mod Status

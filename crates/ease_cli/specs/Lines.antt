@@ -2,11 +2,15 @@
 use Rattle.std.specs.Prelude.{ℕ, List, [], ◌∷◌, ◌++◌, codes, decimal}
 use Rattle.ease_base.specs.Lines.{line}
 use Rattle.ease_base.specs.declared.place.Pos.{Pos}
+use Rattle.image_file.specs.declared.error.ImageError.{ImageError}
+use Rattle.image_file.specs.declared.error.ImageError.TheVariants as image
 use Rattle.task_text.specs.declared.error.TextError.{TextError}
 use Rattle.task_text.specs.declared.error.TextError.TheVariants as text
 use Rattle.task_check.specs.declared.error.CheckError.{CheckError}
 use Rattle.task_check.specs.declared.error.CheckError.TheVariants as check
 use Rattle.task_check.specs.declared.error.Limit.{Limit}
+use Rattle.world_file.specs.declared.error.WorldError.{WorldError}
+use Rattle.world_file.specs.declared.error.WorldError.TheVariants as world
 use Rattle.task_check.specs.declared.error.Limit.TheVariants.{Tasks, Names, NvWords, VolWords, Length, NameBytes, PeripheralNumber, Turns, Loops, Sites, KeptWords, Nodes}
 
 -- line and column, with a colon between them
@@ -65,3 +69,30 @@ check_line (check.DmaUnderIf at) = source at (codes "dma-under-if")
 check_line (check.TooMany at) = source at (codes "too-many")
 check_line (check.LimitReached at limit count) = source_limit at limit count
 check_line check.NoMemory = []
+
+-- what is wrong with a file, with a number behind it
+abbrev pub numbered : List ℕ → ℕ → List ℕ
+numbered name n = line (name ++ 32 ∷ decimal n)
+
+-- the line of bytes that are no world; want of memory has none
+abbrev pub world_line : WorldError → List ℕ
+world_line world.NotToml = line (codes "world not-toml")
+world_line world.BadKey = line (codes "world bad-key")
+world_line world.BadValue = line (codes "world bad-value")
+world_line world.UnknownPeripheral = line (codes "world unknown-peripheral")
+world_line (world.TooManySteps sum) = numbered (codes "world too-many-steps") sum
+world_line (world.TooManyTicks sum) = numbered (codes "world too-many-ticks") sum
+world_line world.NoMemory = []
+
+-- the line of bytes that are no image; want of memory has none
+abbrev pub image_line : ImageError → List ℕ
+image_line image.BadMagic = line (codes "image bad-magic")
+image_line (image.BadVersion n) = numbered (codes "image bad-version") n
+image_line (image.BadScheme n) = numbered (codes "image bad-scheme") n
+image_line image.Short = line (codes "image short")
+image_line (image.TooLarge n) = numbered (codes "image too-large") n
+image_line (image.BadWord n) = numbered (codes "image bad-word") n
+image_line (image.BadSymbol n) = numbered (codes "image bad-symbol") n
+image_line (image.BadMark n) = numbered (codes "image bad-mark") n
+image_line image.Trailing = line (codes "image trailing")
+image_line image.NoMemory = []

@@ -1,11 +1,14 @@
 //! The commands of `ease`: words, files and output, with the theorem on the one public call.
 #![tactic(auto)]
 
-mod answer;
-mod form;
+mod fetched;
 mod lines;
+mod readers;
+mod refusal;
+mod run_command;
 mod status;
 mod top;
+mod walk_command;
 
 pub use status::Status;
 pub use top::ease;

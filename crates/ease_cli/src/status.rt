@@ -11,6 +11,10 @@ pub enum Status {
     Usage,
     /// The source has no tree, or its tree isn't accepted.
     SourceRefused,
+    /// The bytes are no world.
+    WorldRefused,
+    /// The bytes are no image.
+    ImageRefused,
     /// A file of the words could not be fetched.
     ReadFault,
     /// A write failed; what was written is a front of the output.
@@ -21,6 +25,8 @@ pub enum Status {
     NoMemory,
     /// The run trapped; its output was written whole.
     Trapped,
+    /// The power ended before the machine did; the output was written whole.
+    PowerEnded,
 }
 
 impl Status {
@@ -32,11 +38,14 @@ impl Status {
             Status::Ok => 0,
             Status::Usage => 1,
             Status::SourceRefused => 2,
+            Status::WorldRefused => 3,
+            Status::ImageRefused => 4,
             Status::ReadFault => 5,
             Status::WriteFault => 6,
             Status::TooLong => 7,
             Status::NoMemory => 8,
             Status::Trapped => 9,
+            Status::PowerEnded => 10,
         }
     }
 }

@@ -49,6 +49,23 @@ pub fn run_bytes(
     Ok(Ran { status, out })
 }
 
+// The same of two files, `p` and `w`; the fetches of these numbers fail.
+pub fn run_pair(
+    alloc: Global,
+    line: &[&str],
+    first: &[u8],
+    world: &[u8],
+    fails: &[u32],
+) -> Result<Ran, NoMemory> {
+    let mut files = MemCabinet::make(alloc, calls(alloc, fails)?);
+    files.put("p", first)?;
+    files.put("w", world)?;
+    let mut out = MemSink::make(alloc, 1_000, Words::new(alloc))?;
+    let words = words(alloc, line)?;
+    let status = ease(alloc, words.as_slice(), &mut files, &mut out);
+    Ok(Ran { status, out })
+}
+
 #[test]
 fn walk_writes_the_states_of_the_unbroken_run(rt: HostRuntime) -> Result<(), Fail> {
     let relay =
@@ -168,18 +185,25 @@ fn statements_do_what_they_say(rt: HostRuntime) -> Result<(), Fail> {
 
 #[test]
 fn words_that_are_no_command_are_answered_by_usage(rt: HostRuntime) -> Result<(), Fail> {
-    let cases: [&[&str]; 11] = [
+    let cases: [&[&str]; 18] = [
         &[],
         &["walk"],
         &["walk", "p"],
-        &["walk", "p", "5", "6"],
+        &["walk", "p", "5", "w", "x"],
+        &["walk", "--brief", "p", "5"],
+        &["walk", "p", "5", "--scheme", "undo"],
+        &["--help"],
+        &["--version"],
+        &["run", "p"],
+        &["run", "p", "w", "--brief", "--brief"],
+        &["run", "p", "w", "--brief=true"],
         &["walk", "p", "01"],
         &["walk", "p", "+5"],
         &["walk", "p", ""],
         &["walk", "p", "1001"],
         &["walk", "p", "99999999999"],
         &["walk", "-p", "5"],
-        &["run", "p", "5"],
+        &["run", "p", "w", "x"],
     ];
     for line in cases {
         let ran = run(rt.alloc(), line, COUNTER, 1_000)?;

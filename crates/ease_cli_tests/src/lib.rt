@@ -8,6 +8,10 @@ mod limits;
 #[cfg(test)]
 mod refusals;
 #[cfg(test)]
+mod runs;
+#[cfg(test)]
 mod site_refusals;
 #[cfg(test)]
 mod walks;
+#[cfg(test)]
+mod worlds;

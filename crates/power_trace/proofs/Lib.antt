@@ -1,5 +1,0 @@
-mod Examples
-mod LineLemmas
-mod NameLemmas
-mod PlaceLemmas
-mod ShortLemmas

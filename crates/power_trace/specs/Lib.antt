@@ -1,3 +1,5 @@
 pub mod Put
 pub mod Report
+pub mod Run
 pub mod Short
+pub mod Writing

@@ -1,11 +1,8 @@
 //! Runs of a machine on power rows, and their reports.
 #![tactic(auto)]
 
-mod event_text;
-mod laws;
-mod line;
-mod report_line;
+mod error;
+mod run;
 
-pub use laws::a_line_has_at_most_256_bytes;
-pub use line::Line;
-pub use report_line::event_line;
+pub use error::RunError;
+pub use run::run;

@@ -1,0 +1,147 @@
+//! Command lines and what they ask for.
+use command_line::{Command, command_of};
+use std::alloc::{AllocError, Global};
+use std::test::Fail;
+
+// The words of a line, between bars.
+fn words(alloc: Global, line: &str) -> Result<Vec<String>, AllocError> {
+    let mut all = Vec::new(alloc);
+    for word in line.split('|') {
+        all.push(String::from_str(alloc, word)?)?;
+    }
+    Ok(all)
+}
+
+// What is asked for as a text; `?` stands for no world.
+fn text(alloc: Global, command: &Option<Command<'_>>) -> Result<String, AllocError> {
+    match command {
+        None => format!(in alloc; "usage"),
+        Some(
+            Command::Walk {
+                program,
+                tasks,
+                world,
+            },
+        ) => format!(in alloc; "walk {program} {tasks} {}", world.unwrap_or("?")),
+        Some(
+            Command::Run {
+                image,
+                world,
+                brief,
+            },
+        ) => {
+            let brief = if *brief { " brief" } else { "" };
+            format!(in alloc; "run {image} {world}{brief}")
+        }
+    }
+}
+
+static LINES: [(&str, &str); 96] = [
+    ("walk|p|5", "walk p 5 ?"),
+    ("walk|p|5|w", "walk p 5 w"),
+    ("walk", "usage"),
+    ("walk|p", "usage"),
+    ("walk|p|5|w|x", "usage"),
+    ("--|walk|p|5", "walk p 5 ?"),
+    ("walk|--|p|5", "walk p 5 ?"),
+    ("walk|p|5|--", "walk p 5 ?"),
+    ("walk|p|--|5|--", "walk p 5 --"),
+    ("walk|p|1000", "walk p 1000 ?"),
+    ("walk|p|1001", "usage"),
+    ("walk|p|05", "usage"),
+    ("walk|p|0", "walk p 0 ?"),
+    ("walk|p|+5", "usage"),
+    ("walk|p|", "usage"),
+    ("walk||5", "walk  5 ?"),
+    ("walk|-|5", "walk - 5 ?"),
+    ("walk|p|5|--brief", "usage"),
+    ("build|p", "usage"),
+    ("build|p|--scheme|undo", "usage"),
+    ("build|p|--scheme=bank", "usage"),
+    ("--scheme|bank|build|p", "usage"),
+    ("build|--scheme|bank|p", "usage"),
+    ("build|p|--scheme", "usage"),
+    ("build|p|--scheme|--|undo", "usage"),
+    ("run|i|w", "run i w"),
+    ("run|i|w|--brief", "run i w brief"),
+    ("--brief|run|i|w", "run i w brief"),
+    ("run|--brief|i|w|--brief", "usage"),
+    ("run|i|w|--brief=true", "usage"),
+    ("run|i|w|--bri", "usage"),
+    ("run|i|w|-b", "usage"),
+    ("run|i", "usage"),
+    ("run|i|--|w", "run i w"),
+    ("run|i|--|--brief", "run i --brief"),
+    ("run|--|-x|--brief", "run -x --brief"),
+    ("--help", "usage"),
+    ("-h", "usage"),
+    ("--version", "usage"),
+    ("help", "usage"),
+    ("", "usage"),
+    ("run|i|w|--scheme|undo", "usage"),
+    ("--=x|run|i|w", "usage"),
+    ("run|i|w|---", "usage"),
+    ("run|i|w|-é", "usage"),
+    ("--scheme=bank|walk|undo|q", "usage"),
+    ("run|0", "usage"),
+    ("walk|0", "usage"),
+    ("0|run|walk|--x|--scheme=undo|build", "usage"),
+    ("run|undo|undo", "run undo undo"),
+    ("run|--scheme=undo|build|5|5", "usage"),
+    ("run|--x|walk", "usage"),
+    ("walk|", "usage"),
+    ("run|--|build|-", "run build -"),
+    ("walk|build|-x|undo|build", "usage"),
+    ("q|--x|walk|0|build|--brief", "usage"),
+    ("run|--brief=1", "usage"),
+    ("run|q|--scheme=bank|--scheme", "usage"),
+    ("walk|p|run|--", "usage"),
+    ("run|5", "usage"),
+    ("run|--scheme=|--scheme=bank|walk|--", "usage"),
+    ("--scheme=|--scheme=|-|-|run|p", "usage"),
+    ("walk|--scheme=bank|run|--x|q", "usage"),
+    ("walk|--scheme=|--scheme=undo||--scheme=bank", "usage"),
+    ("run|-|q", "run - q"),
+    ("walk|p|--scheme=undo|undo|q", "usage"),
+    ("walk||--scheme=bank|--|--", "usage"),
+    ("5|--scheme=|--scheme|bank|walk", "usage"),
+    ("q|--brief=1|walk", "usage"),
+    ("run|walk|p", "run walk p"),
+    ("run|undo|build", "run undo build"),
+    ("run|walk|--scheme|", "usage"),
+    ("run|walk", "usage"),
+    ("run|--brief|5|--scheme=|--scheme=|", "usage"),
+    ("run|-x|--", "usage"),
+    ("walk|--brief=1|undo|run|--brief=1", "usage"),
+    ("run|bank|build", "run bank build"),
+    ("run|q|walk", "run q walk"),
+    ("run||bank", "run  bank"),
+    ("run|build|--x|--scheme=undo|p", "usage"),
+    ("walk|--|--scheme=bank|5|run", "walk --scheme=bank 5 run"),
+    ("walk|walk|-x|--|5", "usage"),
+    ("run|--x|walk|--scheme|-x|--scheme=", "usage"),
+    ("5|--scheme|p|p|walk", "usage"),
+    ("walk|q|undo|bank|-", "usage"),
+    ("--scheme|run", "usage"),
+    ("walk|--brief|a|5", "usage"),
+    ("walk|a|5|b|c", "usage"),
+    ("walk|a|01", "usage"),
+    ("walk|--|-a|5", "walk -a 5 ?"),
+    ("run|--|i|w", "run i w"),
+    ("--brief|--|run|i|w", "run i w brief"),
+    ("run|i|w|--brief|--", "run i w brief"),
+    ("run|i|w|x", "usage"),
+    ("walk|p|4294967296", "usage"),
+    ("walk|p|18446744073709551616", "usage"),
+];
+
+#[test]
+fn a_line_asks_for_its_command(rt: HostRuntime) -> Result<(), Fail> {
+    let alloc = rt.alloc();
+    for (line, expected) in LINES.iter() {
+        let words = words(alloc, line)?;
+        let command = command_of(alloc, words.as_slice())?;
+        assert_eq!(rt; text(alloc, &command)?.as_str(), *expected, "for {line:?}");
+    }
+    Ok(())
+}

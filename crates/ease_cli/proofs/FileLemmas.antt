@@ -1,0 +1,51 @@
+-- What refusals tell, and a cabinet through two fetches.
+use Rattle.std.proofs.Common.{◌≡◌, ℕ, ◌≤◌, Bool, List, [], ◌∷◌, ◌++◌, length, Result, Ok, Err, IfOk, IfErr, refl, sym, ap, subst, ◌∙◌}
+use Rattle.std.proofs.Math.Path.{fun_ext}
+use Rattle.ease_base.specs.Cabinet.{Contents}
+use Rattle.ease_base.specs.declared.error.NoMemory.{NoMemory}
+use Rattle.ease_cli.specs.Answer.{Tells, IsRead, Stops, IsReadInVain, unbrought, refused}
+use Rattle.ease_cli.specs.Files.{Files, files_of, Wanted, limit_of, IsQuiet, IsBrought, IsUnbrought}
+use Rattle.ease_cli.specs.Inputs.{Input, IsInput, IsRefused}
+use Rattle.ease_cli.specs.declared.refusal.Refusal.{Refusal}
+use Rattle.ease_cli.specs.declared.refusal.Refusal.TheVariants as refusal
+use Rattle.ease_cli.specs.declared.status.Status.{Status}
+
+-- what is told of less is told of more
+pub tells_weaker : (P Q : Status → List ℕ → Type 0) (r : Refusal) → ((s : Status) (t : List ℕ) → P s t → Q s t) → Tells P r → Tells Q r
+tells_weaker P Q (refusal.Refused s t) weaker told = weaker s t told
+tells_weaker P Q refusal.WriteFault weaker told = told
+tells_weaker P Q refusal.NoMemory weaker told = tt
+
+line_is : (P : List ℕ → Type 0) (line : Result (List ℕ) NoMemory) (t : List ℕ) → IfOk line P → line ≡ Ok t → P t
+line_is P line t if is = subst (λ (l : Result (List ℕ) NoMemory). IfOk l P) is if
+
+-- a refusal that is made of a line tells what is so of the line
+pub tells_line : (P : List ℕ → Type 0) (Q : Status → List ℕ → Type 0) (status : Status) (line : Result (List ℕ) NoMemory) (r : Refusal)
+    → IfOk line P → Tells (λ s t. (s ≡ status) × (line ≡ Ok t)) r → ((t : List ℕ) → P t → line ≡ Ok t → Q status t) → Tells Q r
+tells_line P Q status line (refusal.Refused s t) if made so = subst (λ (x : Status). Q x t) (sym made.0) (so t (line_is P line t if made.1) made.1)
+tells_line P Q status line refusal.WriteFault if made so = made
+tells_line P Q status line refusal.NoMemory if made so = tt
+
+-- a file that was brought and is this input
+pub read_is : (f : Files) (at : Wanted) (before : List Input) (input : Input) (bytes got : List ℕ) → got ≡ bytes → IsBrought f at.name (limit_of at.kind) bytes → IsInput at.kind before got input → IsRead f at before input
+read_is f at before input bytes got same brought is = record { bytes = bytes; brought = brought; is = subst (λ (b : List ℕ). IsInput at.kind before b input) same is }
+
+-- a file that was brought and is refused ends the command
+pub refused_stops : (f : Files) (at : Wanted) (before : List Input) (bytes got : List ℕ) (r : Refusal) → got ≡ bytes → IsQuiet f → IsBrought f at.name (limit_of at.kind) bytes
+    → Tells (IsRefused at.kind before got) r → Tells (Stops f at before) r
+refused_stops f at before bytes got r same quiet brought told =
+    tells_weaker (IsRefused at.kind before got) (Stops f at before) r
+    (λ s t is. refused quiet (record { bytes = bytes; brought = brought; refused = subst (λ (b : List ℕ). IsRefused at.kind before b s t) same is })) told
+
+pub unbrought_stops : (f : Files) (at : Wanted) (before : List Input) (r : Refusal) → Tells (IsUnbrought f at.name (limit_of at.kind)) r → Tells (Stops f at before) r
+unbrought_stops f at before r told = tells_weaker (IsUnbrought f at.name (limit_of at.kind)) (Stops f at before) r (λ s t is. unbrought is) told
+
+-- a cabinet that was quiet in a first fetch is in a second as in both
+pub both_fetches : (told told1 : Bool) (contents contents1 : Contents) (faults faults1 faults2 long long1 long2 : ℕ)
+    → told1 ≡ told → ((name : List ℕ) → contents1 name ≡ contents name) → faults1 ≡ faults → long1 ≡ long
+    → files_of told1 contents1 faults1 faults2 long1 long2 ≡ files_of told contents faults faults2 long long2
+both_fetches told told1 contents contents1 faults faults1 faults2 long long1 long2 t c f l =
+    ap (λ (x : Bool). files_of x contents1 faults1 faults2 long1 long2) t
+    ∙ ap (λ (x : Contents). files_of told x faults1 faults2 long1 long2) (fun_ext c)
+    ∙ ap (λ (x : ℕ). files_of told contents x faults2 long1 long2) f
+    ∙ ap (λ (x : ℕ). files_of told contents faults faults2 x long2) l

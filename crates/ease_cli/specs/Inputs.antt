@@ -1,0 +1,81 @@
+-- What the bytes of a file are, after the files before it, and why they are refused.
+use Rattle.std.specs.Prelude.{◌≡◌, ℕ, List, [], ◌∷◌, Option, Some, None}
+use Rattle.devices.specs.declared.world.World.{World}
+use Rattle.ease_base.specs.declared.place.Peripheral.{Peripheral}
+use Rattle.ease_cli.specs.Files.{Kind, source_file, image_file, world_file}
+use Rattle.ease_cli.specs.Lines.{text_line, check_line, image_line, world_line}
+use Rattle.ease_cli.specs.declared.status.Status.{Status}
+use Rattle.ease_cli.specs.declared.status.Status.TheVariants.{SourceRefused, ImageRefused, WorldRefused}
+use Rattle.image_file.specs.Bytes.{image_bytes, HasFields}
+use Rattle.image_file.specs.Faults.{image_fault}
+use Rattle.image_file.specs.declared.error.ImageError.{ImageError}
+use Rattle.task_ast.specs.declared.tree.Program.{Program}
+use Rattle.task_check.specs.CheckedForm.{core_of}
+use Rattle.task_check.specs.Faults.{Accepted, first_fault}
+use Rattle.task_check.specs.declared.error.CheckError.{CheckError}
+use Rattle.task_text.specs.Reads.{Reads, Refuses}
+use Rattle.task_text.specs.declared.error.TextError.{TextError}
+use Rattle.word_isa.specs.declared.image.Image.{Image}
+use Rattle.world_file.specs.WorldFile.{world_of, world_fault}
+use Rattle.world_file.specs.declared.error.WorldError.{WorldError}
+
+-- what an accepted file is
+pub data Input : Type 0 where
+  tree : Program → Input
+  image : Image → Input
+  world : World → Input
+
+-- the peripherals that a world may name: those of the program or the image before it
+abbrev pub names_of : List Input → List Peripheral
+names_of [] = []
+names_of (tree p ∷ rest) = (core_of p).peripherals
+names_of (image i ∷ rest) = i.peripherals
+names_of (world w ∷ rest) = []
+
+-- a tree reads the source, and it is accepted
+abbrev pub IsTree : List ℕ → Program → Type 0
+IsTree bytes p = Reads bytes p × Accepted p
+
+-- the bytes are those of the image
+abbrev pub IsImage : List ℕ → Image → Type 0
+IsImage bytes i = bytes ≡ image_bytes i
+
+-- what the bytes of a file are, after the files before it
+abbrev pub IsInput : Kind → List Input → List ℕ → Input → Type 0
+IsInput source_file before bytes (tree p) = IsTree bytes p
+IsInput image_file before bytes (image i) = IsImage bytes i
+IsInput world_file before bytes (world w) = world_of bytes (names_of before) ≡ Some w
+IsInput source_file before bytes (image i) = ⊥
+IsInput source_file before bytes (world w) = ⊥
+IsInput image_file before bytes (tree p) = ⊥
+IsInput image_file before bytes (world w) = ⊥
+IsInput world_file before bytes (tree p) = ⊥
+IsInput world_file before bytes (image i) = ⊥
+
+-- The text is the line of the source's fault: no tree reads it, or its tree isn't accepted.
+pub data IsSourceLine (bytes text : List ℕ) : Type 0 where
+  unread : (fault : TextError) → Refuses bytes fault → text ≡ text_line fault → IsSourceLine bytes text
+  unaccepted : (program : Program) (fault : CheckError) → Reads bytes program → first_fault program ≡ Some fault → text ≡ check_line fault → IsSourceLine bytes text
+
+-- the text is the line of the first fault of the file
+abbrev pub IsLineOf : Kind → List Input → List ℕ → List ℕ → Type 0
+IsLineOf source_file before bytes text = IsSourceLine bytes text
+IsLineOf image_file before bytes text = (fault : ImageError) × (image_fault bytes ≡ Some fault) × (text ≡ image_line fault)
+IsLineOf world_file before bytes text = (fault : WorldError) × (world_fault bytes (names_of before) ≡ Some fault) × (text ≡ world_line fault)
+
+abbrev pub refused_status : Kind → Status
+refused_status source_file = SourceRefused
+refused_status image_file = ImageRefused
+refused_status world_file = WorldRefused
+
+-- nothing that could be accepted stands in the file
+abbrev pub IsNoInput : Kind → List Input → List ℕ → Type 0
+IsNoInput source_file before bytes = (p : Program) → IsTree bytes p → ⊥
+IsNoInput image_file before bytes = (i : Image) → HasFields i → IsImage bytes i → ⊥
+IsNoInput world_file before bytes = (w : World) → world_of bytes (names_of before) ≡ Some w → ⊥
+
+-- The file is refused, with the status and the line of its first fault; nothing that could be accepted stands in it.
+pub record IsRefused (kind : Kind) (before : List Input) (bytes : List ℕ) (status : Status) (text : List ℕ) : Type 0 where
+  pub status_is : status ≡ refused_status kind
+  pub line : IsLineOf kind before bytes text
+  pub none : IsNoInput kind before bytes

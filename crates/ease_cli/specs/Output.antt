@@ -1,0 +1,55 @@
+-- The output of each command over its inputs, with its status.
+use Rattle.std.specs.Prelude.{◌≡◌, ℕ, Bool, List, [], ◌∷◌, Option}
+use Rattle.command_line.specs.Form.{Form, walk, run}
+use Rattle.devices.specs.declared.event.RunEnd.{RunEnd}
+use Rattle.devices.specs.declared.event.RunEnd.TheVariants as run_end
+use Rattle.devices.specs.declared.world.World.{World}
+use Rattle.ease_cli.specs.Inputs.{Input, tree, image, world}
+use Rattle.ease_cli.specs.declared.status.Status.{Status}
+use Rattle.ease_cli.specs.declared.status.Status.TheVariants.{Ok, Trapped, PowerEnded}
+use Rattle.power_trace.specs.Run.{journal_on, report_on}
+use Rattle.task_ast.specs.declared.core_form.Core.{Core}
+use Rattle.task_ast.specs.declared.tree.Program.{Program}
+use Rattle.task_check.specs.CheckedForm.{core_of}
+use Rattle.walk_run.specs.Walk.{walk_of}
+use Rattle.walk_run.specs.WalkText.{text_of}
+use Rattle.walk_run.specs.declared.walked.WalkEnd.{WalkEnd}
+use Rattle.walk_run.specs.declared.walked.WalkEnd.TheVariants as walk_end
+use Rattle.word_isa.specs.declared.image.Image.{Image}
+
+-- the status of an unbroken run, by its end
+abbrev pub walk_status : WalkEnd → Status
+walk_status (walk_end.Trapped trap) = Trapped
+walk_status walk_end.Stopped = Ok
+walk_status walk_end.Limit = Ok
+walk_status walk_end.NoReading = Ok
+
+-- `walk`: the text is that of the unbroken run, of at most so many tasks, with these readings
+pub record IsWalkOutput (core : Core) (readings : List ℕ) (tasks : ℕ) (status : Status) (text : List ℕ) : Type 0 where
+  pub ended : status ≡ walk_status (walk_of core readings tasks).end
+  pub written : text ≡ text_of core (walk_of core readings tasks)
+
+-- the status of a run, by its end
+abbrev pub run_status : RunEnd → Status
+run_status run_end.Halted = Ok
+run_status (run_end.Trapped code) = Trapped
+run_status run_end.Power = PowerEnded
+
+-- `run`: the text is the report of the journal of the image on the world
+pub record IsRunOutput (i : Image) (w : World) (brief : Bool) (status : Status) (text : List ℕ) : Type 0 where
+  pub ended : status ≡ run_status (journal_on i w).ending
+  pub written : text ≡ report_on i w brief
+
+-- the readings of an unbroken run: those that a world retains, or none without a world
+abbrev pub retained_of : List Input → List ℕ
+retained_of [] = []
+retained_of (world w ∷ rest) = w.retained
+retained_of (tree p ∷ rest) = []
+retained_of (image i ∷ rest) = []
+
+-- What each command writes, over its files: one row for each command.
+pub data IsOutput (c : Form) (inputs : List Input) (status : Status) (text : List ℕ) : Type 0 where
+  walks : (program : List ℕ) (tasks : ℕ) (named : Option (List ℕ)) (p : Program) (rest : List Input) → c ≡ walk program tasks named → inputs ≡ tree p ∷ rest
+    → IsWalkOutput (core_of p) (retained_of rest) tasks status text → IsOutput c inputs status text
+  runs : (file named : List ℕ) (brief : Bool) (i : Image) (w : World) → c ≡ run file named brief → inputs ≡ image i ∷ (world w ∷ [])
+    → IsRunOutput i w brief status text → IsOutput c inputs status text

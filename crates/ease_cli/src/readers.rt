@@ -1,0 +1,65 @@
+//! What the bytes of a file are, or the refusal with the line of their first fault.
+ghost use Rattle.std.specs.Prelude.{◌≡◌, ℕ, List, [], ◌≤◌, length, IfOk, IfErr};
+ghost use Rattle.devices.specs.World.{IsWithinLimits};
+ghost use Rattle.ease_cli.specs.Answer.{Tells};
+ghost use Rattle.ease_cli.specs.Files.{source_file, image_file, world_file};
+ghost use Rattle.ease_cli.specs.Inputs as inputs;
+ghost use Rattle.task_ast.specs.WellFormed.{IsWellFormed};
+ghost use Rattle.task_ast.specs.declared.tree.Program.{Program};
+ghost use Rattle.task_check.specs.CheckedForm.{core_of};
+ghost use Rattle.world_file.specs.Peripherals.{AreApart};
+ghost use Rattle.world_file.specs.WorldFile.{world_of};
+
+use crate::lines::{check_line, image_line, text_line, world_line};
+use crate::refusal::{Refusal, refusal};
+use crate::status::Status;
+use devices::World;
+use ease_base::{List, Peripheral};
+use image_file::read_image;
+use std::alloc::Global;
+use task_ast::Core;
+use task_check::check;
+use task_text::read_program;
+use word_isa::Image;
+use world_file::read_world;
+
+/// The checked form of a source.
+pub fn program_in(alloc: Global, bytes: &[u8]) -> Result<Core, Refusal>
+    requires short { length bytes.now ≤ 65536 }
+    ensures read { IfOk result (λ core. (p : Program) × inputs.IsTree bytes.now p × (core ≡ core_of p)) }
+    ensures refused { IfErr result (Tells (inputs.IsRefused source_file [] bytes.now)) }
+    ensures well_formed { IfOk result IsWellFormed }
+{
+    let program = match read_program(alloc, bytes) {
+        Ok(program) => program,
+        Err(fault) => return Err(refusal(Status::SourceRefused, text_line(alloc, fault))),
+    };
+    match check(alloc, &program) {
+        Ok(core) => Ok(core),
+        Err(fault) => Err(refusal(Status::SourceRefused, check_line(alloc, fault))),
+    }
+}
+
+/// The image that the bytes are.
+pub fn image_in(alloc: Global, bytes: &[u8]) -> Result<Image, Refusal>
+    ensures read { IfOk result (inputs.IsImage bytes.now) }
+    ensures refused { IfErr result (Tells (inputs.IsRefused image_file [] bytes.now)) }
+{
+    match read_image(alloc, bytes) {
+        Ok(image) => Ok(image),
+        Err(fault) => Err(refusal(Status::ImageRefused, image_line(alloc, fault))),
+    }
+}
+
+/// The world that the bytes are, with readings of these peripherals alone.
+pub fn world_in(alloc: Global, bytes: &[u8], names: &List<Peripheral>) -> Result<World, Refusal>
+    requires apart { AreApart names.now }
+    ensures read { IfOk result (λ world. world_of bytes.now names.now ≡ Some world) }
+    ensures refused { (before : List inputs.Input) → inputs.names_of before ≡ names.now → IfErr result (Tells (inputs.IsRefused world_file before bytes.now)) }
+    ensures within { IfOk result IsWithinLimits }
+{
+    match read_world(alloc, bytes, names) {
+        Ok(world) => Ok(world),
+        Err(fault) => Err(refusal(Status::WorldRefused, world_line(alloc, fault))),
+    }
+}
