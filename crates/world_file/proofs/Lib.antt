@@ -1,4 +1,5 @@
 pub mod AnswerLemmas
+pub mod ApartLemmas
 pub mod DocumentLemmas
 pub mod FeedLemmas
 pub mod LimitLemmas

@@ -3,6 +3,7 @@
 
 mod error;
 mod keys;
+mod laws;
 mod limits;
 mod parts;
 mod reading;
@@ -10,4 +11,5 @@ mod tree;
 mod values;
 
 pub use error::WorldError;
+pub use laws::{peripherals_of_a_program_are_apart, peripherals_of_an_image_are_apart};
 pub use reading::read_world;
