@@ -1,6 +1,5 @@
 -- The world and the fault of bytes, by what `toml` makes of them; and what an answer says of them.
-use Rattle.std.proofs.Common.{◌≡◌, ◌≢◌, refl, sym, ap, ◌∙◌, List, ℕ, Option, Some, None, Result, Ok, Err, IfOk, IfErr, MatchResult, cond, arith}
-use Rattle.std.specs.Option.{option_map, is_none}
+use Rattle.std.proofs.Common.{◌≡◌, ◌≢◌, refl, ap, ◌∙◌, List, ℕ, Some, None, Result, Ok, Err, MatchResult, arith}
 use Rattle.toml.specs.Data.{Members}
 use Rattle.ease_base.specs.declared.place.Peripheral.{Peripheral}
 use Rattle.devices.specs.declared.world.World.{World}

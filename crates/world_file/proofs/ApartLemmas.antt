@@ -1,5 +1,5 @@
 -- The peripherals of a checked program, and those of an image, are apart.
-use Rattle.std.proofs.Common.{◌≡◌, refl, sym, ap, ◌∙◌, subst, ℕ, suc, Bool, true, false, not, cond, ◌&&◌, ◌||◌, ◌==◌, nat_eq, List, [], ◌∷◌, ◌++◌, append_assoc, append-nil, map, Option, Some, None, is_some, bytes_eq, arith}
+use Rattle.std.proofs.Common.{◌≡◌, refl, ap, ◌∙◌, subst, ℕ, suc, Bool, true, false, not, cond, ◌&&◌, ◌||◌, ◌==◌, nat_eq, List, [], ◌∷◌, ◌++◌, append_assoc, append-nil, map, Option, Some, None, is_some, bytes_eq, arith}
 use Rattle.std.proofs.lemmas.Bool.{and_parts, not-true, true≢false}
 use Rattle.std.proofs.lemmas.Cmp.{nat_eq_equiv, nat_list_eq_equiv}
 use Rattle.std.proofs.lemmas.Map.Keys.{IsDistinct-push}
@@ -10,7 +10,7 @@ use Rattle.op_table.specs.Places.{place_of, repeats}
 use Rattle.ease_base.specs.declared.place.Peripheral.{Peripheral}
 use Rattle.task_ast.specs.WellFormed.{IsWellFormed, core_names}
 use Rattle.task_ast.specs.declared.core_form.Core.{Core}
-use Rattle.word_isa.specs.Entries.{peripheral_passes, name_passes, first_bad_peripheral}
+use Rattle.word_isa.specs.Entries.{peripheral_passes, name_passes}
 use Rattle.word_isa.specs.FirstFailing.{first_failing}
 use Rattle.word_isa.specs.Names.{is_symbol_name}
 use Rattle.word_isa.specs.declared.image.Image.{Image}

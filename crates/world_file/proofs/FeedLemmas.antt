@@ -1,5 +1,5 @@
 -- Feeds of different names have different numbers, where the peripherals are apart.
-use Rattle.std.proofs.Common.{◌≡◌, refl, sym, ap, ◌∙◌, subst, ℕ, ◌<◌, Bool, true, false, not, cond, ◌==◌, nat_eq, List, [], ◌∷◌, ◌++◌, append_assoc, map, Option, Some, None, unwrap_or, is_some, String, Global, string_bytes, nat_cmp, Ordering, Less, Equal, bytes_eq, rules, arith}
+use Rattle.std.proofs.Common.{◌≡◌, refl, sym, ap, ◌∙◌, subst, ℕ, Bool, true, false, cond, nat_eq, List, [], ◌∷◌, ◌++◌, append_assoc, map, Option, Some, None, unwrap_or, is_some, String, Global, string_bytes, nat_cmp, Less, Equal, bytes_eq, arith}
 use Rattle.std.proofs.lemmas.Bool.{and_parts}
 use Rattle.std.proofs.lemmas.Bool.Decides.{nat_tests}
 use Rattle.std.proofs.lemmas.Cmp.{nat_list_cmp_total}

@@ -1,5 +1,5 @@
 -- A world whose sums pass is within the limits: its numbers are words whatever the table says.
-use Rattle.std.proofs.Common.{◌≡◌, ◌≢◌, ◌≤◌, refl, ◌<◌, ◌^◌, ℕ, Bool, true, false, not, List, [], ◌∷◌, map, Option, Some, None, cond, nat_lt, pos, negsuc, arith, unwrap_or, length, get_or, lit<, codes, sym, subst}
+use Rattle.std.proofs.Common.{◌≡◌, ◌≤◌, refl, ◌<◌, ◌^◌, ℕ, Bool, true, false, List, map, Option, Some, None, cond, nat_lt, pos, negsuc, arith, unwrap_or, get_or, lit<, codes, sym, subst}
 use Rattle.std.proofs.lemmas.Bool.Decides.{nat_tests}
 use Rattle.std.proofs.lemmas.List.Elements.{All-map}
 use Rattle.std.specs.List.{All}
@@ -9,8 +9,8 @@ use Rattle.devices.specs.World.{AreDistinct, AreWords, IsRow, IsFeed, IsWithinLi
 use Rattle.devices.specs.declared.world.PowerRow.{PowerRow}
 use Rattle.devices.specs.declared.world.World.{World}
 use Rattle.ease_base.specs.declared.place.Peripheral.{Peripheral}
-use Rattle.world_file.specs.Document.{word_in, values_at}
-use Rattle.world_file.specs.WorldFile.{word_of, word_at, row_of, row_in, words_of, rows_of, table_world, told, sums_fault}
+use Rattle.world_file.specs.Document.{values_at}
+use Rattle.world_file.specs.WorldFile.{word_of, row_of, row_in, table_world, told, sums_fault}
 use Rattle.world_file.specs.declared.error.WorldError.TheVariants.{TooManySteps, TooManyTicks}
 
 -- a number that is no word is left out

@@ -156,11 +156,7 @@ fn feeds_of(alloc: Global, names: &List<Peripheral>, top: &Table) -> Result<List
 }
 
 /// The world of a table that passes the tests of keys, values and names.
-pub fn table_world(
-    alloc: Global,
-    names: &List<Peripheral>,
-    top: &Table,
-) -> Result<World, NoMemory>
+pub fn table_world(alloc: Global, names: &List<Peripheral>, top: &Table) -> Result<World, NoMemory>
     requires apart { AreApart names.now }
     requires known { tests.has_known_names names.now (table_view top.now) ≡ true }
     ensures is { IfOk result (λ w. w ≡ spec.table_world names.now (table_view top.now)) }

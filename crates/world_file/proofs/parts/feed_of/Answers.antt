@@ -1,6 +1,6 @@
 use Rattle.std.proofs.Common.{rules, ◌≡◌, ◌<◌, [], sym, subst}
 use Rattle.std.specs.Option.{option_map_or}
-use Rattle.devices.specs.World.{IsFeed, AreWords}
+use Rattle.devices.specs.World.{AreWords}
 use Rattle.toml.specs.Data.{as_array}
 use Rattle.toml.specs.View.{view}
 use Rattle.world_file.specs.Document.{values_of}

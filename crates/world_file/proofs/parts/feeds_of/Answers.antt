@@ -1,4 +1,4 @@
-use Rattle.std.proofs.Common.{rules, ◌≡◌, ◌∙◌, true, Some, codes, is_some, option_and_then}
+use Rattle.std.proofs.Common.{rules, ◌≡◌, ◌∙◌, Some, codes, is_some, option_and_then}
 use Rattle.std.proofs.lemmas.Result.{IfOk-weaker}
 use Rattle.std.specs.List.{IsDistinct}
 use Rattle.toml.specs.Data.{as_table, get_member}
