@@ -12,7 +12,7 @@ ghost use Rattle.world_file.specs.Peripherals.{AreApart};
 
 use crate::lines::{READ_FAULT, TOO_LONG};
 use crate::readers::{image_in, program_in, world_in};
-use crate::refusal::{Refusal, refusal};
+use crate::refusal::{Refusal, refuse};
 use crate::status::Status;
 use devices::World;
 use ease_base::{Cabinet, FetchError, List, Peripheral, Text};
@@ -116,11 +116,11 @@ fn fetch_bytes<C: Cabinet>(
     let mut bytes = Vec::new(alloc);
     match files.fetch(alloc, name, limit, &mut bytes) {
         Ok(()) => Ok(bytes),
-        Err(FetchError::Failed) => Err(refusal(
+        Err(FetchError::Failed) => Err(refuse(
             Status::ReadFault,
             Text::from_slice(alloc, READ_FAULT),
         )),
-        Err(FetchError::TooLong) => Err(refusal(
+        Err(FetchError::TooLong) => Err(refuse(
             Status::TooLong,
             Text::from_slice(alloc, TOO_LONG),
         )),

@@ -11,7 +11,7 @@ ghost use Rattle.world_file.specs.Peripherals.{AreApart};
 ghost use Rattle.world_file.specs.WorldFile.{world_of};
 
 use crate::lines::{check_line, image_line, text_line, world_line};
-use crate::refusal::{Refusal, refusal};
+use crate::refusal::{Refusal, refuse};
 use crate::status::Status;
 use devices::World;
 use ease_base::{List, Peripheral};
@@ -32,11 +32,11 @@ pub fn program_in(alloc: Global, bytes: &[u8]) -> Result<Core, Refusal>
 {
     let program = match read_program(alloc, bytes) {
         Ok(program) => program,
-        Err(fault) => return Err(refusal(Status::SourceRefused, text_line(alloc, fault))),
+        Err(fault) => return Err(refuse(Status::SourceRefused, text_line(alloc, fault))),
     };
     match check(alloc, &program) {
         Ok(core) => Ok(core),
-        Err(fault) => Err(refusal(Status::SourceRefused, check_line(alloc, fault))),
+        Err(fault) => Err(refuse(Status::SourceRefused, check_line(alloc, fault))),
     }
 }
 
@@ -47,7 +47,7 @@ pub fn image_in(alloc: Global, bytes: &[u8]) -> Result<Image, Refusal>
 {
     match read_image(alloc, bytes) {
         Ok(image) => Ok(image),
-        Err(fault) => Err(refusal(Status::ImageRefused, image_line(alloc, fault))),
+        Err(fault) => Err(refuse(Status::ImageRefused, image_line(alloc, fault))),
     }
 }
 
@@ -60,6 +60,6 @@ pub fn world_in(alloc: Global, bytes: &[u8], names: &List<Peripheral>) -> Result
 {
     match read_world(alloc, bytes, names) {
         Ok(world) => Ok(world),
-        Err(fault) => Err(refusal(Status::WorldRefused, world_line(alloc, fault))),
+        Err(fault) => Err(refuse(Status::WorldRefused, world_line(alloc, fault))),
     }
 }

@@ -17,7 +17,7 @@ pub enum Refusal {
 }
 
 /// A refusal with its line, where there is memory for it.
-pub fn refusal(status: Status, line: Result<Text, NoMemory>) -> Refusal
+pub fn refuse(status: Status, line: Result<Text, NoMemory>) -> Refusal
     ensures { Tells (λ s text. (s ≡ status) × (line ≡ Ok text)) result }
 {
     match line {

@@ -8,7 +8,7 @@ ghost use Rattle.ease_cli.specs.Settled.{CanBeRead, Settles};
 ghost use Rattle.ease_cli.specs.declared.refusal.Refusal.TheVariants.{WriteFault};
 
 use crate::lines::USAGE;
-use crate::refusal::{Refusal, refusal};
+use crate::refusal::{Refusal, refuse};
 use crate::run_command::run_command;
 use crate::status::Status;
 use crate::walk_command::walk_command;
@@ -80,7 +80,7 @@ fn carry_out<C: Cabinet, K: Sink>(
     ensures out_faults { K.faults out.old ≤ K.faults out.new }
 {
     match command_of(alloc, words)? {
-        None => Err(refusal(Status::Usage, Text::from_slice(alloc, USAGE))),
+        None => Err(refuse(Status::Usage, Text::from_slice(alloc, USAGE))),
         Some(
             Command::Walk {
                 program,
