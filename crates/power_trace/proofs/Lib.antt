@@ -1,0 +1,5 @@
+mod Examples
+mod LineLemmas
+mod NameLemmas
+mod PlaceLemmas
+mod ShortLemmas

@@ -1,5 +1,3 @@
 pub mod Put
 pub mod Report
-pub mod Run
 pub mod Short
-pub mod Writing

@@ -1,8 +1,11 @@
 //! Runs of a machine on power rows, and their reports.
 #![tactic(auto)]
 
-mod error;
-mod run;
+mod event_text;
+mod laws;
+mod line;
+mod report_line;
 
-pub use error::RunError;
-pub use run::run;
+pub use laws::a_line_has_at_most_256_bytes;
+pub use line::Line;
+pub use report_line::event_line;

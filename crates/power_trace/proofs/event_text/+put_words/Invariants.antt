@@ -1,0 +1,6 @@
+-- The words that are left.
+use Rattle.std.proofs.Common.{length}
+use Rattle.power_trace.proofs.event_text.+put_words.Given as goal
+
+abbrev pub decreases-put_words : goal.decreases-put_words
+decreases-put_words l = length l.words.now
