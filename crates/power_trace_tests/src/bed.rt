@@ -85,7 +85,7 @@ pub struct Written {
 }
 
 /// Runs an image on a world of these rows and readings.
-pub fn written(
+pub fn run_image(
     alloc: Global,
     image: &Image,
     rows: &[ShortRow],

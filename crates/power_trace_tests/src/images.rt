@@ -1,5 +1,5 @@
 //! Small images on small worlds, and malicious ones: what they write.
-use crate::bed::{ShortRow, written};
+use crate::bed::{ShortRow, run_image};
 use devices::RunEnd;
 use ease_base::{List, Words};
 use image_file::read_image;
@@ -27,7 +27,7 @@ fn expect_report<R: AllocGlobal + Abort>(
     report: &str,
     end: RunEnd,
 ) -> Result<(), Fail> {
-    let run = written(rt.alloc(), image, rows, &[9], brief, None)?;
+    let run = run_image(rt.alloc(), image, rows, &[9], brief, None)?;
     assert_eq!(rt; run.sink.taken(), report.as_bytes());
     assert_eq!(rt; run.end, Ok(end));
     Ok(())
@@ -36,8 +36,10 @@ fn expect_report<R: AllocGlobal + Abort>(
 #[test]
 fn an_image_asks_again_after_a_failure(rt: HostRuntime) -> Result<(), Fail> {
     let image = read_image(rt.alloc(), ASKS).ok().expect(&rt, "an image");
-    let full = "0 boot 1\n2 look 0 1\n3 issue 0 temp 7 = 9\n3 boot 2\n5 look 0 14\n6 issue 0 temp 7 = 9\n8 end halted\n";
-    let brief = "boot 1\nlook 0\nissue 0 temp 7 = 9\nboot 2\nlook 0\nissue 0 temp 7 = 9\nend halted\n";
+    let full =
+        "0 boot 1\n2 look 0 1\n3 issue 0 temp 7 = 9\n3 boot 2\n5 look 0 14\n6 issue 0 temp 7 = 9\n8 end halted\n";
+    let brief =
+        "boot 1\nlook 0\nissue 0 temp 7 = 9\nboot 2\nlook 0\nissue 0 temp 7 = 9\nend halted\n";
     let rows = [row(3, 10), row(10, 0)];
     expect_report(&rt, &image, &rows, false, full, RunEnd::Halted)?;
     expect_report(&rt, &image, &rows, true, brief, RunEnd::Halted)
