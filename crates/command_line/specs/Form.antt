@@ -1,5 +1,5 @@
 -- What a command line asks for: one row for each command. A later command is a constructor and a row.
-use Rattle.std.specs.Prelude.{ℕ, Bool, ◌&&◌, ◌||◌, List, drop, length, slice_get, codes, decimal, nat_lt, nat_le, Option, Some, None, is_some, option_map, if◌then◌else◌}
+use Rattle.std.specs.Prelude.{ℕ, ◌≤◌, Bool, ◌&&◌, ◌||◌, List, drop, length, slice_get, codes, decimal, nat_lt, nat_le, Option, Some, None, is_some, option_map, if◌then◌else◌}
 use Rattle.std.specs.Str.{bytes_eq}
 use Rattle.std.specs.Str.Parse.{digits_value}
 use Rattle.command_line.specs.Line.{Line, line_of, Text}
@@ -54,3 +54,8 @@ form_of words = line_of words >>= form_in
 abbrev pub seen : Command → Form
 seen (command.Walk program tasks world) = walk program.now tasks (option_map (λ s. s.now) world)
 seen (command.Run image world brief) = run image.now world.now brief
+
+-- a walk is of at most 1,000 tasks
+abbrev pub HasFewTasks : Command → Type 0
+HasFewTasks (command.Walk program tasks world) = tasks ≤ 1000
+HasFewTasks (command.Run image world brief) = Unit {0}

@@ -25,10 +25,11 @@ pub enum Command<'a> {
     },
 }
 
-/// What the words of a command line ask for; None exactly where they are none of the forms.
+/// What the words of a command line ask for; None exactly where they are none of the forms. A walk is of at most 1,000 tasks.
 #[tactic(auto, using(crate::proofs::FormLaws::form_of_line, crate::proofs::FormLaws::form_of_none))]
 pub fn command_of<'a>(alloc: Global, words: &'a [String]) -> Result<Option<Command<'a>>, NoMemory>
-    ensures { IfOk result (λ c. option_map spec.seen c ≡ spec.form_of (map string_bytes words.now)) }
+    ensures form { IfOk result (λ c. option_map spec.seen c ≡ spec.form_of (map string_bytes words.now)) }
+    ensures few { IfOk result (λ c. IfSome c spec.HasFewTasks) }
 {
     match read_words(alloc, words)? {
         Some(read) => Ok(command_in(&read)),
@@ -38,7 +39,8 @@ pub fn command_of<'a>(alloc: Global, words: &'a [String]) -> Result<Option<Comma
 
 // What a line asks for, by its first positional.
 fn command_in<'a>(words: &Words<'a>) -> Option<Command<'a>>
-    ensures { (l : Line) → IsLine words.now l → option_map spec.seen result ≡ spec.form_in l }
+    ensures form { (l : Line) → IsLine words.now l → option_map spec.seen result ≡ spec.form_in l }
+    ensures few { IfSome result spec.HasFewTasks }
 {
     match words.command {
         Some(command) => asked_by(command, words),
@@ -48,7 +50,8 @@ fn command_in<'a>(words: &Words<'a>) -> Option<Command<'a>>
 
 // What a command asks for with its options.
 fn asked_by<'a>(command: &str, words: &Words<'a>) -> Option<Command<'a>>
-    ensures { option_map spec.seen result ≡ spec.asked_by command.now (map (λ s. s.now) words.now.args.items) words.now.brief (option_map (λ s. s.now) words.now.scheme) }
+    ensures form { option_map spec.seen result ≡ spec.asked_by command.now (map (λ s. s.now) words.now.args.items) words.now.brief (option_map (λ s. s.now) words.now.scheme) }
+    ensures few { IfSome result spec.HasFewTasks }
 {
     let args = words.args.as_slice();
     if command == "walk" {
@@ -68,7 +71,8 @@ fn asked_by<'a>(command: &str, words: &Words<'a>) -> Option<Command<'a>>
 
 #[tactic(auto, unfolding(crate::specs::Form::walk_in))]
 fn walk_in<'a>(args: &[&'a str]) -> Option<Command<'a>>
-    ensures { option_map spec.seen result ≡ spec.walk_in (map (λ s. s.now) args.now) }
+    ensures form { option_map spec.seen result ≡ spec.walk_in (map (λ s. s.now) args.now) }
+    ensures few { IfSome result spec.HasFewTasks }
 {
     if args.len() > 3 {
         return None;
@@ -84,7 +88,8 @@ fn walk_in<'a>(args: &[&'a str]) -> Option<Command<'a>>
 
 #[tactic(auto, unfolding(crate::specs::Form::run_in))]
 fn run_in<'a>(args: &[&'a str], brief: bool) -> Option<Command<'a>>
-    ensures { option_map spec.seen result ≡ spec.run_in (map (λ s. s.now) args.now) brief }
+    ensures form { option_map spec.seen result ≡ spec.run_in (map (λ s. s.now) args.now) brief }
+    ensures few { IfSome result spec.HasFewTasks }
 {
     if args.len() > 2 {
         return None;
@@ -107,7 +112,8 @@ fn text_at<'a>(args: &[&'a str], at: usize) -> Option<&'a str>
 
 // The number, at most `most`, whose decimal digits the word is.
 fn number_in(word: &str, most: u32) -> Option<u32>
-    ensures { result ≡ spec.number_in most word.now }
+    ensures number { result ≡ spec.number_in most word.now }
+    ensures few { IfSome result (λ n. n ≤ most) }
 {
     number_of(word, most)
 }

@@ -5,9 +5,11 @@ use Rattle.command_line.specs.Form.{Form, walk, run}
 use Rattle.devices.specs.declared.event.RunEnd.{RunEnd}
 use Rattle.devices.specs.declared.event.RunEnd.TheVariants as run_end
 use Rattle.devices.specs.declared.world.World.{World}
+use Rattle.ease_base.specs.Cabinet.{Contents}
 use Rattle.ease_base.specs.Sink.{extended, TookFront}
+use Rattle.ease_cli.proofs.FileLemmas.{both_fetches, read_stays}
 use Rattle.ease_cli.specs.Answer.{Answers, Tells, AreRead, IsRead, Reaches, Stops, unbrought, refused, Says, stopped, done, IsUsage, LineSays, Writes, TellsFetchFault}
-use Rattle.ease_cli.specs.Files.{Files, Kind, source_file, image_file, world_file, Wanted, named, named_if, wanted, limit_of, IsQuiet, IsUnbrought, failed, long}
+use Rattle.ease_cli.specs.Files.{Files, files_of, Kind, source_file, image_file, world_file, Wanted, named, named_if, wanted, limit_of, IsQuiet, IsUnbrought, failed, long}
 use Rattle.ease_cli.specs.Inputs.{Input, tree, image, world, refused_status, IsRefused}
 use Rattle.ease_cli.specs.Output.{IsOutput, walks, runs, IsWalkOutput, IsRunOutput, walk_status, run_status}
 use Rattle.ease_cli.specs.declared.refusal.Refusal.{Refusal}
@@ -47,6 +49,35 @@ first_reached f c at rest order = record { front = []; back = rest; order = orde
 
 pub second_reached : (f : Files) (c : Form) (first at : Wanted) (rest : List Wanted) (input : Input) → wanted c ≡ first ∷ (at ∷ rest) → IsRead f first [] input → Reaches f c at (input ∷ [])
 second_reached f c first at rest input order read = record { front = first ∷ []; back = rest; order = order; passed = (read, tt) }
+
+-- the first file ends the command
+pub first_stops : (c : Form) (f : Files) (at : Wanted) (rest : List Wanted) (e : Refusal) (r : Result Status Refusal) (before after : Option (List ℕ)) → wanted c ≡ at ∷ rest
+    → Tells (Stops f at []) e → r ≡ Err e → after ≡ before → Answers (Says c f) r before after
+first_stops c f at rest e r before after order told is same =
+    subst (λ (x : Result Status Refusal). Answers (Says c f) x before after) (sym is)
+    (answers_refusal (Says c f) e before after same (says_stopped c f at [] e (first_reached f c at rest order) told))
+
+-- the second file ends the command
+pub second_stops : (c : Form) (first at : Wanted) (rest : List Wanted) (input : Input) (told told1 : Bool) (contents contents1 : Contents) (a a1 a2 l l1 l2 : ℕ) (e : Refusal) (r : Result Status Refusal) (before after : Option (List ℕ))
+    → wanted c ≡ first ∷ (at ∷ rest) → IsRead (files_of told contents a a1 l l1) first [] input → IsQuiet (files_of told contents a a1 l l1)
+    → told1 ≡ told → ((name : List ℕ) → contents1 name ≡ contents name)
+    → Tells (Stops (files_of told1 contents1 a1 a2 l1 l2) at (input ∷ [])) e → r ≡ Err e → after ≡ before → Answers (Says c (files_of told contents a a2 l l2)) r before after
+second_stops c first at rest input told told1 contents contents1 a a1 a2 l l1 l2 e r before after order read quiet t cs stops is same =
+    let f = files_of told contents a a2 l l2 in
+    let moved = both_fetches told told1 contents contents1 a a1 a2 l l1 l2 t cs quiet.faults quiet.long in
+    let reaches = second_reached f c first at rest input order (read_stays told contents a a1 a2 l l1 l2 first [] input read) in
+    subst (λ (x : Result Status Refusal). Answers (Says c f) x before after) (sym is)
+    (answers_refusal (Says c f) e before after same (says_stopped c f at (input ∷ []) e reaches (subst (λ (g : Files). Tells (Stops g at (input ∷ [])) e) moved stops)))
+
+-- both files were read in the one cabinet
+pub both_read : (first at : Wanted) (input second : Input) (told told1 : Bool) (contents contents1 : Contents) (a a1 a2 l l1 l2 : ℕ)
+    → IsRead (files_of told contents a a1 l l1) first [] input → IsQuiet (files_of told contents a a1 l l1)
+    → told1 ≡ told → ((name : List ℕ) → contents1 name ≡ contents name)
+    → IsRead (files_of told1 contents1 a1 a2 l1 l2) at (input ∷ []) second → IsQuiet (files_of told1 contents1 a1 a2 l1 l2)
+    → IsQuiet (files_of told contents a a2 l l2) × IsRead (files_of told contents a a2 l l2) first [] input × IsRead (files_of told contents a a2 l l2) at (input ∷ []) second
+both_read first at input second told told1 contents contents1 a a1 a2 l l1 l2 read quiet t cs read2 quiet2 =
+    let moved = both_fetches told told1 contents contents1 a a1 a2 l l1 l2 t cs quiet.faults quiet.long in
+    (subst IsQuiet moved quiet2, read_stays told contents a a1 a2 l l1 l2 first [] input read, subst (λ (g : Files). IsRead g at (input ∷ []) second) moved read2)
 
 -- ---- outputs
 

@@ -49,3 +49,9 @@ both_fetches told told1 contents contents1 faults faults1 faults2 long long1 lon
     ∙ ap (λ (x : Contents). files_of told x faults1 faults2 long1 long2) (fun_ext c)
     ∙ ap (λ (x : ℕ). files_of told contents x faults2 long1 long2) f
     ∙ ap (λ (x : ℕ). files_of told contents faults faults2 x long2) l
+
+-- what was brought stays so, whatever the counts become
+pub read_stays : (told : Bool) (contents : Contents) (a a1 a2 l l1 l2 : ℕ) (at : Wanted) (before : List Input) (input : Input)
+    → IsRead (files_of told contents a a1 l l1) at before input → IsRead (files_of told contents a a2 l l2) at before input
+read_stays told contents a a1 a2 l l1 l2 at before input r =
+    record { bytes = r.bytes; brought = record { brought = r.brought.brought; short = r.brought.short }; is = r.is }

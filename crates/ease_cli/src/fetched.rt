@@ -1,5 +1,5 @@
 //! The files of a command: each is fetched and then read.
-ghost use Rattle.std.specs.Prelude.{◌≡◌, ◌⊎◌, ℕ, List, ◌<◌, ◌≤◌, IfOk, IfErr, OnOk};
+ghost use Rattle.std.specs.Prelude.{◌≡◌, ◌⊎◌, ℕ, List, [], ◌<◌, ◌≤◌, IfOk, IfErr, OnOk};
 ghost use Rattle.devices.specs.World.{IsWithinLimits};
 ghost use Rattle.ease_base.specs.Count.{raised};
 ghost use Rattle.ease_cli.specs.Answer.{IsRead, Stops, Tells};

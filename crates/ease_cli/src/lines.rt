@@ -1,5 +1,6 @@
 //! The lines that refusals write; docs/COMMANDS.md lists them.
 ghost use Rattle.std.specs.Prelude.{◌≡◌, ◌≢◌, IfOk, OnOk};
+ghost use Rattle.ease_base.specs.Lines.{line};
 ghost use Rattle.ease_cli.specs.Lines as spec;
 
 use ease_base::{NoMemory, Pos, Text};
@@ -81,7 +82,7 @@ pub fn image_line(alloc: Global, fault: ImageError) -> Result<Text, NoMemory>
 
 // The name of a fault on a line of its own.
 fn plain_line(alloc: Global, name: &str) -> Result<Text, NoMemory>
-    ensures { IfOk result (λ text. text ≡ spec.line name.now) }
+    ensures { IfOk result (λ text. text ≡ line name.now) }
 {
     let text = format!(in alloc; "{name}\n")?;
     Ok(Text::from_vec(text.into_bytes()))

@@ -16,6 +16,7 @@ use ease_base::{Cabinet, Sink};
 use power_trace::{RunError, run};
 use std::alloc::Global;
 use word_isa::Image;
+use world_file::peripherals_of_an_image_are_apart;
 
 /// Writes the report of the run of an image on a world, line by line.
 pub fn run_command<C: Cabinet, K: Sink>(
@@ -37,6 +38,7 @@ pub fn run_command<C: Cabinet, K: Sink>(
     ensures out_steady { (IsErrOf result WriteFault → ⊥) → K.faults out.new ≡ K.faults out.old }
     ensures out_faults { K.faults out.old ≤ K.faults out.new }
 {
+    peripherals_of_an_image_are_apart();
     let image = fetch_image(alloc, files, image)?;
     let world = fetch_world(alloc, files, world, &image.peripherals)?;
     write_run(alloc, &image, &world, brief, out)

@@ -15,6 +15,7 @@ use ease_base::{Cabinet, Sink, send_all};
 use std::alloc::Global;
 use task_ast::Core;
 use walk_run::{WalkEnd, walk, walk_text};
+use world_file::peripherals_of_a_program_are_apart;
 
 /// Writes the states of the unbroken run of at most `tasks` tasks, fed the readings that the world retains.
 pub fn walk_command<C: Cabinet, K: Sink>(
@@ -26,7 +27,7 @@ pub fn walk_command<C: Cabinet, K: Sink>(
     out: &mut K,
 ) -> Result<Status, Refusal>
     requires few { tasks ≤ 1000 }
-    ensures says { Answers (Says (form.walk program.now tasks (option_map (λ s. s.now) world))
+    ensures says { Answers (Says (form.walk program.now tasks (option_map (λ s. s.now) world.entry))
         (files_of (C.told files.old) (C.contents files.old) (C.faults files.old) (C.faults files.new) (C.long_contents files.old) (C.long_contents files.new)))
         result (K.taken out.old) (K.taken out.new) }
     ensures told { C.told files.new ≡ C.told files.old }
@@ -37,6 +38,7 @@ pub fn walk_command<C: Cabinet, K: Sink>(
     ensures out_steady { (IsErrOf result WriteFault → ⊥) → K.faults out.new ≡ K.faults out.old }
     ensures out_faults { K.faults out.old ≤ K.faults out.new }
 {
+    peripherals_of_a_program_are_apart();
     let core = fetch_program(alloc, files, program)?;
     match world {
         None => write_walk(alloc, &core, &[], tasks, out),

@@ -2,5 +2,5 @@ use Rattle.std.proofs.Common.{arith}
 use Rattle.command_line.proofs.FormLaws.{number_exact}
 use Rattle.command_line.proofs.command.number_in.Goals as goal
 
-pub returns : goal.returns
-returns c = number_exact c.args.most c.args.word.now c.number_of.result (omega arith) c.number_of.ensures.found c.number_of.ensures.none
+pub returns-clause-number : goal.returns-clause-number
+returns-clause-number c = number_exact c.args.most c.args.word.now c.number_of.result (omega arith) c.number_of.ensures.found c.number_of.ensures.none

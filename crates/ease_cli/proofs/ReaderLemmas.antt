@@ -1,0 +1,106 @@
+-- Why the bytes of a file are refused, from what their reader answers.
+use Rattle.std.proofs.Common.{◌≡◌, ◌≢◌, ℕ, List, [], Option, Some, None, Result, Ok, Err, IfOk, IfErr, refl, sym, ap, subst, ◌∙◌}
+use Rattle.std.specs.Prelude.{OnOk, MatchResult}
+use Rattle.devices.specs.declared.world.World.{World}
+use Rattle.ease_base.specs.declared.error.NoMemory.{NoMemory}
+use Rattle.ease_base.specs.declared.place.Peripheral.{Peripheral}
+use Rattle.ease_cli.specs.Answer.{Tells}
+use Rattle.ease_cli.specs.Files.{source_file, image_file, world_file}
+use Rattle.ease_cli.specs.Inputs.{Input, IsRefused, IsTree, IsImage, names_of, unread, unaccepted}
+use Rattle.ease_cli.specs.Lines.{text_line, check_line, world_line, image_line}
+use Rattle.ease_cli.specs.declared.refusal.Refusal.{Refusal}
+use Rattle.ease_cli.specs.declared.refusal.Refusal.TheVariants as refusal
+use Rattle.ease_cli.specs.declared.status.Status.{Status}
+use Rattle.ease_cli.specs.declared.status.Status.TheVariants as ends
+use Rattle.image_file.specs.Bytes.{image_bytes, raw_of, HasFields}
+use Rattle.image_file.specs.Faults.{image_fault}
+use Rattle.image_file.specs.declared.error.ImageError.{ImageError}
+use Rattle.image_file.specs.declared.error.ImageError.TheVariants as image
+use Rattle.task_ast.specs.declared.tree.Program.{Program}
+use Rattle.task_check.specs.Faults.{Accepted, first_fault}
+use Rattle.task_check.specs.declared.error.CheckError.{CheckError}
+use Rattle.task_check.specs.declared.error.CheckError.TheVariants as check
+use Rattle.task_text.specs.Reads.{Reads, Refuses, IsCause, Answers}
+use Rattle.task_text.specs.declared.error.TextError.{TextError}
+use Rattle.task_text.specs.declared.error.TextError.TheVariants as text
+use Rattle.word_isa.specs.declared.image.Image.{Image}
+use Rattle.world_file.specs.WorldFile.{world_of, world_fault}
+use Rattle.world_file.specs.declared.error.WorldError.{WorldError}
+use Rattle.world_file.specs.declared.error.WorldError.TheVariants as world
+
+-- what is so of a line that was made
+line_has : (P : List ℕ → Type 0) (line : Result (List ℕ) NoMemory) (t : List ℕ) → IfOk line P → line ≡ Ok t → P t
+line_has P line t if is = subst (λ (l : Result (List ℕ) NoMemory). IfOk l P) is if
+
+-- a refusal that was made of a line
+made : (Q : Status → List ℕ → Type 0) (status : Status) (line : Result (List ℕ) NoMemory) (r : Refusal) → Tells (λ s t. (s ≡ status) × (line ≡ Ok t)) r → ((t : List ℕ) → line ≡ Ok t → Q status t) → Tells Q r
+made Q status line (refusal.Refused s t) told so = subst (λ (x : Status). Q x t) (sym told.0) (so t told.1)
+made Q status line refusal.WriteFault told so = told
+made Q status line refusal.NoMemory told so = tt
+
+-- ---- sources
+
+cause_refuses : (bytes : List ℕ) (fault : TextError) → fault ≢ text.NoMemory → IsCause bytes fault → Refuses bytes fault
+cause_refuses bytes (text.Syntax at) other cause = cause
+cause_refuses bytes (text.NumberTooWide at) other cause = cause
+cause_refuses bytes text.NoMemory other cause = absurd (other refl)
+
+refused_reads_none : (fault : TextError) (p : Program) → fault ≢ text.NoMemory → Answers (Err fault) (Ok p) → ⊥
+refused_reads_none (text.Syntax at) p other answers = cc
+refused_reads_none (text.NumberTooWide at) p other answers = cc
+refused_reads_none text.NoMemory p other answers = other refl
+
+-- a text that is no program
+pub text_refused : (bytes : List ℕ) (fault : TextError) (line : Result (List ℕ) NoMemory) (r : Refusal) → IsCause bytes fault → ((p : Program) → Reads bytes p → Answers (Err fault) (Ok p))
+    → IfOk line (λ t. t ≡ text_line fault) → OnOk line (fault ≢ text.NoMemory) → Tells (λ s t. (s ≡ ends.SourceRefused) × (line ≡ Ok t)) r → Tells (IsRefused source_file [] bytes) r
+text_refused bytes fault line r cause only spelled memory told = made (IsRefused source_file [] bytes) ends.SourceRefused line r told (λ t is.
+    let other = line_has (λ _. fault ≢ text.NoMemory) line t memory is in
+    record {
+      status_is = refl;
+      line = unread fault (cause_refuses bytes fault other cause) (line_has (λ x. x ≡ text_line fault) line t spelled is);
+      none = λ p tree. refused_reads_none fault p other (only p tree.0);
+    })
+
+one_program : (p q : Program) → Answers (Ok p) (Ok q) → q ≡ p
+one_program p q same = cc
+
+not_accepted : (p : Program) (fault : CheckError) → first_fault p ≡ Some fault → Accepted p → ⊥
+not_accepted p fault first none = cc
+
+-- a tree that isn't accepted
+pub tree_refused : (bytes : List ℕ) (p : Program) (fault : CheckError) (line : Result (List ℕ) NoMemory) (r : Refusal) → Reads bytes p → ((q : Program) → Reads bytes q → Answers (Ok p) (Ok q))
+    → (fault ≢ check.NoMemory → first_fault p ≡ Some fault) → IfOk line (λ t. t ≡ check_line fault) → OnOk line (fault ≢ check.NoMemory)
+    → Tells (λ s t. (s ≡ ends.SourceRefused) × (line ≡ Ok t)) r → Tells (IsRefused source_file [] bytes) r
+tree_refused bytes p fault line r reads only first spelled memory told = made (IsRefused source_file [] bytes) ends.SourceRefused line r told (λ t is.
+    let faulty = first (line_has (λ _. fault ≢ check.NoMemory) line t memory is) in
+    record {
+      status_is = refl;
+      line = unaccepted p fault reads faulty (line_has (λ x. x ≡ check_line fault) line t spelled is);
+      none = λ q tree. not_accepted p fault faulty (subst Accepted (one_program p q (only q tree.0)) tree.1);
+    })
+
+-- ---- images and worlds
+
+-- bytes that are no image
+pub image_refused : (bytes : List ℕ) (fault : ImageError) (line : Result (List ℕ) NoMemory) (r : Refusal) → (fault ≢ image.NoMemory → image_fault bytes ≡ Some fault)
+    → ((i : Image) → HasFields i → bytes ≡ image_bytes i → fault ≢ image.NoMemory → ⊥)
+    → IfOk line (λ t. t ≡ image_line fault) → OnOk line (fault ≢ image.NoMemory) → Tells (λ s t. (s ≡ ends.ImageRefused) × (line ≡ Ok t)) r → Tells (IsRefused image_file [] bytes) r
+image_refused bytes fault line r first only spelled memory told = made (IsRefused image_file [] bytes) ends.ImageRefused line r told (λ t is.
+    let other = line_has (λ _. fault ≢ image.NoMemory) line t memory is in
+    record {
+      status_is = refl;
+      line = (fault, first other, line_has (λ x. x ≡ image_line fault) line t spelled is);
+      none = λ i fits same. only i fits same other;
+    })
+
+-- bytes that are no world
+pub world_refused : (bytes : List ℕ) (names : List Peripheral) (before : List Input) (fault : WorldError) (line : Result (List ℕ) NoMemory) (r : Refusal) → names_of before ≡ names
+    → (fault ≢ world.NoMemory → world_fault bytes names ≡ Some fault) → ((w : World) → world_of bytes names ≡ Some w → fault ≡ world.NoMemory)
+    → IfOk line (λ t. t ≡ world_line fault) → OnOk line (fault ≢ world.NoMemory) → Tells (λ s t. (s ≡ ends.WorldRefused) × (line ≡ Ok t)) r → Tells (IsRefused world_file before bytes) r
+world_refused bytes names before fault line r named first only spelled memory told = made (IsRefused world_file before bytes) ends.WorldRefused line r told (λ t is.
+    let other = line_has (λ _. fault ≢ world.NoMemory) line t memory is in
+    record {
+      status_is = refl;
+      line = (fault, ap (world_fault bytes) named ∙ first other, line_has (λ x. x ≡ world_line fault) line t spelled is);
+      none = λ w is_world. other (only w (sym (ap (world_of bytes) named) ∙ is_world));
+    })
