@@ -6,7 +6,7 @@ use Rattle.ease_base.specs.declared.error.NoMemory.{NoMemory}
 use Rattle.ease_base.specs.declared.place.Peripheral.{Peripheral}
 use Rattle.ease_cli.specs.Answer.{Tells}
 use Rattle.ease_cli.specs.Files.{source_file, image_file, world_file}
-use Rattle.ease_cli.specs.Inputs.{Input, IsRefused, IsTree, IsImage, names_of, unread, unaccepted}
+use Rattle.ease_cli.specs.Inputs.{Input, IsRefused, IsTree, IsImage, IsUnaccepted, names_of, unread, unaccepted}
 use Rattle.ease_cli.specs.Lines.{text_line, check_line, world_line, image_line}
 use Rattle.ease_cli.specs.declared.refusal.Refusal.{Refusal}
 use Rattle.ease_cli.specs.declared.refusal.Refusal.TheVariants as refusal
@@ -16,10 +16,11 @@ use Rattle.image_file.specs.Bytes.{image_bytes, raw_of, HasFields}
 use Rattle.image_file.specs.Faults.{image_fault}
 use Rattle.image_file.specs.declared.error.ImageError.{ImageError}
 use Rattle.image_file.specs.declared.error.ImageError.TheVariants as image
+use Rattle.task_ast.specs.declared.core_form.Core.{Core}
 use Rattle.task_ast.specs.declared.tree.Program.{Program}
+use Rattle.task_check.specs.CheckedForm.{core_of}
 use Rattle.task_check.specs.Faults.{Accepted, first_fault}
 use Rattle.task_check.specs.declared.error.CheckError.{CheckError}
-use Rattle.task_check.specs.declared.error.CheckError.TheVariants as check
 use Rattle.task_text.specs.Reads.{Reads, Refuses, IsCause, Answers}
 use Rattle.task_text.specs.declared.error.TextError.{TextError}
 use Rattle.task_text.specs.declared.error.TextError.TheVariants as text
@@ -68,16 +69,21 @@ not_accepted : (p : Program) (fault : CheckError) → first_fault p ≡ Some fau
 not_accepted p fault first none = cc
 
 -- a tree that isn't accepted
-pub tree_refused : (bytes : List ℕ) (p : Program) (fault : CheckError) (line : Result (List ℕ) NoMemory) (r : Refusal) → Reads bytes p → ((q : Program) → Reads bytes q → Answers (Ok p) (Ok q))
-    → (fault ≢ check.NoMemory → first_fault p ≡ Some fault) → IfOk line (λ t. t ≡ check_line fault) → OnOk line (fault ≢ check.NoMemory)
-    → Tells (λ s t. (s ≡ ends.SourceRefused) × (line ≡ Ok t)) r → Tells (IsRefused source_file [] bytes) r
-tree_refused bytes p fault line r reads only first spelled memory told = made (IsRefused source_file [] bytes) ends.SourceRefused line r told (λ t is.
-    let faulty = first (line_has (λ _. fault ≢ check.NoMemory) line t memory is) in
-    record {
-      status_is = refl;
-      line = unaccepted p fault reads faulty (line_has (λ x. x ≡ check_line fault) line t spelled is);
-      none = λ q tree. not_accepted p fault faulty (subst Accepted (one_program p q (only q tree.0)) tree.1);
-    })
+pub tree_refused : (bytes : List ℕ) (p : Program) (r : Result Core Refusal) → Reads bytes p → ((q : Program) → Reads bytes q → Answers (Ok p) (Ok q))
+    → IfErr r (Tells (IsUnaccepted p)) → IfErr r (Tells (IsRefused source_file [] bytes))
+tree_refused bytes p (Ok core) reads only told = told
+tree_refused bytes p (Err refusal.WriteFault) reads only told = told
+tree_refused bytes p (Err refusal.NoMemory) reads only told = told
+tree_refused bytes p (Err (refusal.Refused s t)) reads only told = record {
+  status_is = told.status_is;
+  line = unaccepted p told.fault reads told.first told.line;
+  none = λ q tree. not_accepted p told.fault told.first (subst Accepted (one_program p q (only q tree.0)) tree.1);
+}
+
+-- a tree that is accepted
+pub tree_read : (bytes : List ℕ) (p : Program) (r : Result Core Refusal) → Reads bytes p → IfOk r (λ core. Accepted p × (core ≡ core_of p)) → IfOk r (λ core. (q : Program) × IsTree bytes q × (core ≡ core_of q))
+tree_read bytes p (Ok core) reads got = (p, (reads, got.0), got.1)
+tree_read bytes p (Err e) reads got = got
 
 -- ---- images and worlds
 

@@ -57,6 +57,13 @@ pub data IsSourceLine (bytes text : List ℕ) : Type 0 where
   unread : (fault : TextError) → Refuses bytes fault → text ≡ text_line fault → IsSourceLine bytes text
   unaccepted : (program : Program) (fault : CheckError) → Reads bytes program → first_fault program ≡ Some fault → text ≡ check_line fault → IsSourceLine bytes text
 
+-- the tree isn't accepted, and the text is the line of its first fault
+pub record IsUnaccepted (p : Program) (status : Status) (text : List ℕ) : Type 0 where
+  pub status_is : status ≡ SourceRefused
+  pub fault : CheckError
+  pub first : first_fault p ≡ Some fault
+  pub line : text ≡ check_line fault
+
 -- the text is the line of the first fault of the file
 abbrev pub IsLineOf : Kind → List Input → List ℕ → List ℕ → Type 0
 IsLineOf source_file before bytes text = IsSourceLine bytes text

@@ -4,9 +4,10 @@ ghost use Rattle.devices.specs.World.{IsWithinLimits};
 ghost use Rattle.ease_cli.specs.Answer.{Tells};
 ghost use Rattle.ease_cli.specs.Files.{source_file, image_file, world_file};
 ghost use Rattle.ease_cli.specs.Inputs as inputs;
+ghost use Rattle.task_ast.specs.Readable.{IsReadable};
 ghost use Rattle.task_ast.specs.WellFormed.{IsWellFormed};
-ghost use Rattle.task_ast.specs.declared.tree.Program.{Program};
 ghost use Rattle.task_check.specs.CheckedForm.{core_of};
+ghost use Rattle.task_check.specs.Faults.{Accepted};
 ghost use Rattle.world_file.specs.Peripherals.{AreApart};
 ghost use Rattle.world_file.specs.WorldFile.{world_of};
 
@@ -17,7 +18,7 @@ use devices::World;
 use ease_base::{List, Peripheral};
 use image_file::read_image;
 use std::alloc::Global;
-use task_ast::Core;
+use task_ast::{Core, Program};
 use task_check::check;
 use task_text::read_program;
 use word_isa::Image;
@@ -30,11 +31,20 @@ pub fn program_in(alloc: Global, bytes: &[u8]) -> Result<Core, Refusal>
     ensures refused { IfErr result (Tells (inputs.IsRefused source_file [] bytes.now)) }
     ensures well_formed { IfOk result IsWellFormed }
 {
-    let program = match read_program(alloc, bytes) {
-        Ok(program) => program,
-        Err(fault) => return Err(refuse(Status::SourceRefused, text_line(alloc, fault))),
-    };
-    match check(alloc, &program) {
+    match read_program(alloc, bytes) {
+        Ok(program) => checked(alloc, &program),
+        Err(fault) => Err(refuse(Status::SourceRefused, text_line(alloc, fault))),
+    }
+}
+
+// The checked form of a tree.
+fn checked(alloc: Global, program: &Program) -> Result<Core, Refusal>
+    requires readable { IsReadable program.now }
+    ensures read { IfOk result (λ core. Accepted program.now × (core ≡ core_of program.now)) }
+    ensures refused { IfErr result (Tells (inputs.IsUnaccepted program.now)) }
+    ensures well_formed { IfOk result IsWellFormed }
+{
+    match check(alloc, program) {
         Ok(core) => Ok(core),
         Err(fault) => Err(refuse(Status::SourceRefused, check_line(alloc, fault))),
     }
