@@ -1,16 +1,17 @@
 -- From what the parts of a command answer to what the command says.
-use Rattle.std.proofs.Common.{◌≡◌, ℕ, ◌<◌, ◌≤◌, Bool, List, [], ◌∷◌, ◌++◌, length, take, Option, Some, None, Result, Ok, Err, refl, sym, ap, subst, ◌∙◌, arith, inl, inr}
-use Rattle.std.proofs.lemmas.List.{take_all}
+use Rattle.std.proofs.Common.{◌≡◌, ℕ, ◌<◌, ◌≤◌, Bool, List, [], ◌∷◌, ◌++◌, length, take, Option, Some, None, Result, Ok, Err, IfOk, refl, sym, ap, subst, ◌∙◌, arith, inl, inr}
 use Rattle.command_line.specs.Form.{Form, walk, run}
 use Rattle.devices.specs.declared.event.RunEnd.{RunEnd}
 use Rattle.devices.specs.declared.event.RunEnd.TheVariants as run_end
 use Rattle.devices.specs.declared.world.World.{World}
 use Rattle.ease_base.specs.Cabinet.{Contents}
 use Rattle.ease_base.specs.Sink.{extended, TookFront}
-use Rattle.ease_cli.proofs.FileLemmas.{both_fetches, read_stays}
+use Rattle.ease_base.specs.declared.error.NoMemory.{NoMemory}
+use Rattle.ease_cli.proofs.FileLemmas.{both_fetches, read_stays, tells_line}
 use Rattle.ease_cli.specs.Answer.{Answers, Tells, AreRead, IsRead, Reaches, Stops, unbrought, refused, Says, stopped, done, IsUsage, LineSays, Writes, TellsFetchFault}
 use Rattle.ease_cli.specs.Files.{Files, files_of, Kind, source_file, image_file, world_file, Wanted, named, named_if, wanted, limit_of, IsQuiet, IsUnbrought, failed, long}
 use Rattle.ease_cli.specs.Inputs.{Input, tree, image, world, refused_status, IsRefused}
+use Rattle.ease_cli.specs.Lines.{usage}
 use Rattle.ease_cli.specs.Output.{IsOutput, walks, runs, IsWalkOutput, IsRunOutput, walk_status, run_status}
 use Rattle.ease_cli.specs.declared.refusal.Refusal.{Refusal}
 use Rattle.ease_cli.specs.declared.refusal.Refusal.TheVariants as refusal
@@ -109,41 +110,75 @@ run_on f file named_world brief i w r before after quiet read second answers =
 
 -- ---- what is said has a status of its own
 
-not_refused : (kind : Kind) → refused_status kind ≡ ends.NoMemory → ⊥
-not_refused source_file e = cc
-not_refused image_file e = cc
-not_refused world_file e = cc
+-- the statuses that write no line
+abbrev pub IsSilent : Status → Type 0
+IsSilent ends.WriteFault = Unit {0}
+IsSilent ends.NoMemory = Unit {0}
+IsSilent ends.Ok = ⊥
+IsSilent ends.Usage = ⊥
+IsSilent ends.SourceRefused = ⊥
+IsSilent ends.WorldRefused = ⊥
+IsSilent ends.ImageRefused = ⊥
+IsSilent ends.ReadFault = ⊥
+IsSilent ends.TooLong = ⊥
+IsSilent ends.Trapped = ⊥
+IsSilent ends.PowerEnded = ⊥
 
-unbrought_status : (f : Files) (name : List ℕ) (limit : ℕ) (s : Status) (t : List ℕ) → IsUnbrought f name limit s t → s ≡ ends.NoMemory → ⊥
-unbrought_status f name limit s t (failed is line quiet why) e = let wrong : ends.ReadFault ≡ ends.NoMemory = sym is ∙ e in cc
-unbrought_status f name limit s t (long is line steady raised why) e = let wrong : ends.TooLong ≡ ends.NoMemory = sym is ∙ e in cc
+refusal_speaks : (kind : Kind) → IsSilent (refused_status kind) → ⊥
+refusal_speaks source_file silent = silent
+refusal_speaks image_file silent = silent
+refusal_speaks world_file silent = silent
 
-walk_ends : (e : WalkEnd) → walk_status e ≡ ends.NoMemory → ⊥
-walk_ends (walk_end.Trapped trap) is = cc
-walk_ends walk_end.Stopped is = cc
-walk_ends walk_end.Limit is = cc
-walk_ends walk_end.NoReading is = cc
+walk_speaks : (e : WalkEnd) → IsSilent (walk_status e) → ⊥
+walk_speaks (walk_end.Trapped trap) silent = silent
+walk_speaks walk_end.Stopped silent = silent
+walk_speaks walk_end.Limit silent = silent
+walk_speaks walk_end.NoReading silent = silent
 
-run_ends : (e : RunEnd) → run_status e ≡ ends.NoMemory → ⊥
-run_ends run_end.Halted is = cc
-run_ends (run_end.Trapped code) is = cc
-run_ends run_end.Power is = cc
+run_speaks : (e : RunEnd) → IsSilent (run_status e) → ⊥
+run_speaks run_end.Halted silent = silent
+run_speaks (run_end.Trapped code) silent = silent
+run_speaks run_end.Power silent = silent
 
-output_ends : (c : Form) (inputs : List Input) (s : Status) (t : List ℕ) → IsOutput c inputs s t → s ≡ ends.NoMemory → ⊥
-output_ends c inputs s t (walks program tasks named p rest asked read output) is = walk_ends _ (sym output.ended ∙ is)
-output_ends c inputs s t (runs file named brief i w asked read output) is = run_ends _ (sym output.ended ∙ is)
+unbrought_speaks : (f : Files) (name : List ℕ) (limit : ℕ) (s : Status) (t : List ℕ) → IsUnbrought f name limit s t → IsSilent s → ⊥
+unbrought_speaks f name limit s t (failed is line steady why) silent = subst IsSilent is silent
+unbrought_speaks f name limit s t (long is line steady rose why) silent = subst IsSilent is silent
 
-stops_ends : (f : Files) (at : Wanted) (before : List Input) (s : Status) (t : List ℕ) → Stops f at before s t → s ≡ ends.NoMemory → ⊥
-stops_ends f at before s t (unbrought why) is = unbrought_status f at.name (limit_of at.kind) s t why is
-stops_ends f at before s t (refused quiet vain) is = not_refused at.kind (sym vain.refused.status_is ∙ is)
+output_speaks : (c : Form) (inputs : List Input) (s : Status) (t : List ℕ) → IsOutput c inputs s t → IsSilent s → ⊥
+output_speaks c inputs s t (walks program tasks named p rest asked read output) silent = walk_speaks _ (subst IsSilent output.ended silent)
+output_speaks c inputs s t (runs file named brief i w asked read output) silent = run_speaks _ (subst IsSilent output.ended silent)
 
-says_ends : (c : Form) (f : Files) (s : Status) (t : List ℕ) → Says c f s t → s ≡ ends.NoMemory → ⊥
-says_ends c f s t (stopped at before reaches why) is = stops_ends f at before s t why is
-says_ends c f s t (done inputs quiet read output) is = output_ends c inputs s t output is
+stops_speak : (f : Files) (at : Wanted) (before : List Input) (s : Status) (t : List ℕ) → Stops f at before s t → IsSilent s → ⊥
+stops_speak f at before s t (unbrought why) silent = unbrought_speaks f at.name (limit_of at.kind) s t why silent
+stops_speak f at before s t (refused quiet vain) silent = refusal_speaks at.kind (subst IsSilent vain.refused.status_is silent)
 
-line_ends : (form : Option Form) (f : Files) (s : Status) (t : List ℕ) → LineSays form f s t → s ≡ ends.NoMemory → ⊥
-line_ends None f s t usage is = let wrong : ends.Usage ≡ ends.NoMemory = sym usage.status_is ∙ is in cc
-line_ends (Some c) f s t says is = says_ends c f s t says is
+says_speak : (c : Form) (f : Files) (s : Status) (t : List ℕ) → Says c f s t → IsSilent s → ⊥
+says_speak c f s t (stopped at before reaches why) silent = stops_speak f at before s t why silent
+says_speak c f s t (done inputs quiet read output) silent = output_speaks c inputs s t output silent
+
+pub line_speaks : (form : Option Form) (f : Files) (s : Status) (t : List ℕ) → LineSays form f s t → IsSilent s → ⊥
+line_speaks None f s t usage silent = subst IsSilent usage.status_is silent
+line_speaks (Some c) f s t says silent = says_speak c f s t says silent
+
+-- so a command that answers a status hasn't failed to write
+pub whole_speaks : (form : Option Form) (f : Files) (s : Status) (before after : Option (List ℕ)) → Answers (LineSays form f) (Ok s) before after → s ≡ ends.WriteFault → ⊥
+whole_speaks form f s before after a is = line_speaks form f s a.0 a.1 (subst IsSilent (sym is) tt)
+
+pub refusal_has_line : (form : Option Form) (f : Files) (s : Status) (t : List ℕ) (before after : Option (List ℕ)) → Answers (LineSays form f) (Err (refusal.Refused s t)) before after → s ≡ ends.WriteFault → ⊥
+refusal_has_line form f s t before after a is = line_speaks form f s t a.0 (subst IsSilent (sym is) tt)
+
+-- ---- the words
+
+-- words that are no command
+pub usage_answers : (form : Option Form) (f : Files) (text : Result (List ℕ) NoMemory) (r : Refusal) (before after : Option (List ℕ)) → None ≡ form → IsQuiet f → after ≡ before
+    → IfOk text (λ t. t ≡ usage) → Tells (λ s t. (s ≡ ends.Usage) × (text ≡ Ok t)) r → Answers (LineSays form f) (Err r) before after
+usage_answers form f text r before after none quiet same spelled told =
+    subst (λ (o : Option Form). Answers (LineSays o f) (Err r) before after) none
+    (answers_refusal (IsUsage f) r before after same (tells_line (λ t. t ≡ usage) (IsUsage f) ends.Usage text r spelled told (λ t is made. record { status_is = refl; line = is; quiet = quiet })))
+
+-- what a command answers is what the words say
+pub form_answers : (c : Form) (form : Option Form) (f : Files) (r : Result Status Refusal) (before after : Option (List ℕ)) → Some c ≡ form → Answers (Says c f) r before after → Answers (LineSays form f) r before after
+form_answers c form f r before after some answers = subst (λ (o : Option Form). Answers (LineSays o f) r before after) some answers
 
 -- ---- what is written
 
@@ -158,8 +193,8 @@ writes_whole form f ends.ReadFault t before after said is = (t, said, is)
 writes_whole form f ends.TooLong t before after said is = (t, said, is)
 writes_whole form f ends.Trapped t before after said is = (t, said, is)
 writes_whole form f ends.PowerEnded t before after said is = (t, said, is)
-writes_whole form f ends.WriteFault t before after said is = (ends.WriteFault, t, said, length t, omega arith, is ∙ ap (extended before) (sym (take_all (length t) t (omega arith))))
-writes_whole form f ends.NoMemory t before after said is = absurd (line_ends form f ends.NoMemory t said refl)
+writes_whole form f ends.WriteFault t before after said is = absurd (line_speaks form f ends.WriteFault t said tt)
+writes_whole form f ends.NoMemory t before after said is = absurd (line_speaks form f ends.NoMemory t said tt)
 
 -- a command that answered a status has written its output
 pub writes_output : (form : Option Form) (f : Files) (s : Status) (before after : Option (List ℕ)) → Answers (LineSays form f) (Ok s) before after → Writes (LineSays form f) s before after

@@ -1,14 +1,17 @@
 -- What refusals tell, and a cabinet through two fetches.
-use Rattle.std.proofs.Common.{◌≡◌, ℕ, ◌≤◌, Bool, List, [], ◌∷◌, ◌++◌, length, Result, Ok, Err, IfOk, IfErr, refl, sym, ap, subst, ◌∙◌}
+use Rattle.std.proofs.Common.{◌≡◌, ◌⊎◌, ℕ, ◌≤◌, ◌<◌, Bool, IsTrue, Option, Some, List, [], ◌∷◌, ◌++◌, length, Result, Ok, Err, IfOk, IfErr, refl, sym, ap, subst, ◌∙◌}
 use Rattle.std.proofs.Math.Path.{fun_ext}
-use Rattle.ease_base.specs.Cabinet.{Contents}
+use Rattle.ease_base.specs.Cabinet.{Contents, Lacks}
+use Rattle.ease_base.specs.Count.{HasRisen, raised}
 use Rattle.ease_base.specs.declared.error.NoMemory.{NoMemory}
 use Rattle.ease_cli.specs.Answer.{Tells, IsRead, Stops, IsReadInVain, unbrought, refused}
-use Rattle.ease_cli.specs.Files.{Files, files_of, Wanted, limit_of, IsQuiet, IsBrought, IsUnbrought}
+use Rattle.ease_cli.specs.Files.{Files, files_of, Wanted, limit_of, IsQuiet, IsBrought, IsUnbrought, failed, long}
+use Rattle.ease_cli.specs.Lines.{read_fault, too_long}
 use Rattle.ease_cli.specs.Inputs.{Input, IsInput, IsRefused}
 use Rattle.ease_cli.specs.declared.refusal.Refusal.{Refusal}
 use Rattle.ease_cli.specs.declared.refusal.Refusal.TheVariants as refusal
 use Rattle.ease_cli.specs.declared.status.Status.{Status}
+use Rattle.ease_cli.specs.declared.status.Status.TheVariants as ends
 
 -- what is told of less is told of more
 pub tells_weaker : (P Q : Status → List ℕ → Type 0) (r : Refusal) → ((s : Status) (t : List ℕ) → P s t → Q s t) → Tells P r → Tells Q r
@@ -55,3 +58,15 @@ pub read_stays : (told : Bool) (contents : Contents) (a a1 a2 l l1 l2 : ℕ) (at
     → IsRead (files_of told contents a a1 l l1) at before input → IsRead (files_of told contents a a2 l l2) at before input
 read_stays told contents a a1 a2 l l1 l2 at before input r =
     record { bytes = r.bytes; brought = record { brought = r.brought.brought; short = r.brought.short }; is = r.is }
+
+-- a fetch that failed, and one of a file that is too long
+pub failed_tells : (f : Files) (name : List ℕ) (limit : ℕ) (text : Result (List ℕ) NoMemory) (r : Refusal) → f.long_after ≡ f.long → HasRisen f.faults f.faults_after ⊎ Lacks f.told f.contents name
+    → IfOk text (λ t. t ≡ read_fault) → Tells (λ s t. (s ≡ ends.ReadFault) × (text ≡ Ok t)) r → Tells (IsUnbrought f name limit) r
+failed_tells f name limit text r steady why spelled told =
+    tells_line (λ t. t ≡ read_fault) (IsUnbrought f name limit) ends.ReadFault text r spelled told (λ t is made. failed refl is steady why)
+
+pub long_tells : (f : Files) (name : List ℕ) (limit : ℕ) (text : Result (List ℕ) NoMemory) (r : Refusal) → f.faults_after ≡ f.faults → f.long_after ≡ raised f.long
+    → (IsTrue f.told → (bytes : List ℕ) × (f.contents name ≡ Some bytes) × (limit < length bytes))
+    → IfOk text (λ t. t ≡ too_long) → Tells (λ s t. (s ≡ ends.TooLong) × (text ≡ Ok t)) r → Tells (IsUnbrought f name limit) r
+long_tells f name limit text r steady rose why spelled told =
+    tells_line (λ t. t ≡ too_long) (IsUnbrought f name limit) ends.TooLong text r spelled told (λ t is made. long refl is steady rose why)
