@@ -157,7 +157,7 @@ says_speak c f s t (stopped at before reaches why) silent = stops_speak f at bef
 says_speak c f s t (done inputs quiet read output) silent = output_speaks c inputs s t output silent
 
 pub line_speaks : (form : Option Form) (f : Files) (s : Status) (t : List ℕ) → LineSays form f s t → IsSilent s → ⊥
-line_speaks None f s t usage silent = subst IsSilent usage.status_is silent
+line_speaks None f s t told silent = subst IsSilent told.status_is silent
 line_speaks (Some c) f s t says silent = says_speak c f s t says silent
 
 -- so a command that answers a status hasn't failed to write
