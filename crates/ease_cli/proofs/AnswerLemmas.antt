@@ -70,6 +70,10 @@ second_stops c first at rest input told told1 contents contents1 a a1 a2 l l1 l2
     subst (λ (x : Result Status Refusal). Answers (Says c f) x before after) (sym is)
     (answers_refusal (Says c f) e before after same (says_stopped c f at (input ∷ []) e reaches (subst (λ (g : Files). Tells (Stops g at (input ∷ [])) e) moved stops)))
 
+-- the files of a walk with a world
+pub walk_wants : (program named_world : List ℕ) (tasks : ℕ) (asked : Option (List ℕ)) → asked ≡ Some named_world → wanted (walk program tasks asked) ≡ named source_file program ∷ (named world_file named_world ∷ [])
+walk_wants program named_world tasks asked some = ap (λ (o : Option (List ℕ)). wanted (walk program tasks o)) some
+
 -- both files were read in the one cabinet
 pub both_read : (first at : Wanted) (input second : Input) (told told1 : Bool) (contents contents1 : Contents) (a a1 a2 l l1 l2 : ℕ)
     → IsRead (files_of told contents a a1 l l1) first [] input → IsQuiet (files_of told contents a a1 l l1)
@@ -83,22 +87,24 @@ both_read first at input second told told1 contents contents1 a a1 a2 l l1 l2 re
 -- ---- outputs
 
 -- `walk` without a world
-pub walk_alone : (f : Files) (program : List ℕ) (tasks : ℕ) (p : Program) (core : Core) (r : Result Status Refusal) (before after : Option (List ℕ))
+pub walk_alone : (f : Files) (program : List ℕ) (tasks : ℕ) (asked : Option (List ℕ)) (p : Program) (core : Core) (r : Result Status Refusal) (before after : Option (List ℕ)) → asked ≡ None
     → IsQuiet f → IsRead f (named source_file program) [] (tree p) → core ≡ core_of p
-    → Answers (IsWalkOutput core [] tasks) r before after → Answers (Says (walk program tasks None) f) r before after
-walk_alone f program tasks p core r before after quiet read is answers =
-    answers_weaker (IsWalkOutput core [] tasks) (Says (walk program tasks None) f) r before after
-    (λ s t output. done (tree p ∷ []) quiet (read, tt) (walks program tasks None p [] refl refl (subst (λ (c : Core). IsWalkOutput c [] tasks s t) is output))) answers
+    → Answers (IsWalkOutput core [] tasks) r before after → Answers (Says (walk program tasks asked) f) r before after
+walk_alone f program tasks asked p core r before after none quiet read is answers =
+    subst (λ (o : Option (List ℕ)). Answers (Says (walk program tasks o) f) r before after) (sym none)
+    (answers_weaker (IsWalkOutput core [] tasks) (Says (walk program tasks None) f) r before after
+    (λ s t output. done (tree p ∷ []) quiet (read, tt) (walks program tasks None p [] refl refl (subst (λ (c : Core). IsWalkOutput c [] tasks s t) is output))) answers)
 
 -- `walk` with a world
-pub walk_with : (f : Files) (program named_world : List ℕ) (tasks : ℕ) (p : Program) (core : Core) (w : World) (readings : List ℕ) (r : Result Status Refusal) (before after : Option (List ℕ))
+pub walk_with : (f : Files) (program named_world : List ℕ) (tasks : ℕ) (asked : Option (List ℕ)) (p : Program) (core : Core) (w : World) (readings : List ℕ) (r : Result Status Refusal) (before after : Option (List ℕ)) → asked ≡ Some named_world
     → IsQuiet f → IsRead f (named source_file program) [] (tree p) → core ≡ core_of p → IsRead f (named world_file named_world) (tree p ∷ []) (world w) → readings ≡ w.retained
-    → Answers (IsWalkOutput core readings tasks) r before after → Answers (Says (walk program tasks (Some named_world)) f) r before after
-walk_with f program named_world tasks p core w readings r before after quiet read is second fed answers =
-    answers_weaker (IsWalkOutput core readings tasks) (Says (walk program tasks (Some named_world)) f) r before after
-    (λ s t output. done (tree p ∷ (world w ∷ [])) quiet (read, second, tt)
-        (walks program tasks (Some named_world) p (world w ∷ []) refl refl
-        (subst (λ (x : List ℕ). IsWalkOutput (core_of p) x tasks s t) fed (subst (λ (c : Core). IsWalkOutput c readings tasks s t) is output)))) answers
+    → Answers (IsWalkOutput core readings tasks) r before after → Answers (Says (walk program tasks asked) f) r before after
+walk_with f program named_world tasks asked p core w readings r before after some quiet read is second fed answers =
+    subst (λ (o : Option (List ℕ)). Answers (Says (walk program tasks o) f) r before after) (sym some)
+    (answers_weaker (IsWalkOutput core readings tasks) (Says (walk program tasks (Some named_world)) f) r before after
+    (λ s t output. done (tree p ∷ (world w ∷ [])) quiet (read, (second, tt))
+    (walks program tasks (Some named_world) p (world w ∷ []) refl refl
+    (subst (λ (x : List ℕ). IsWalkOutput (core_of p) x tasks s t) fed (subst (λ (c : Core). IsWalkOutput c readings tasks s t) is output)))) answers)
 
 -- `run`
 pub run_on : (f : Files) (file named_world : List ℕ) (brief : Bool) (i : Image) (w : World) (r : Result Status Refusal) (before after : Option (List ℕ))
@@ -106,7 +112,7 @@ pub run_on : (f : Files) (file named_world : List ℕ) (brief : Bool) (i : Image
     → Answers (IsRunOutput i w brief) r before after → Answers (Says (run file named_world brief) f) r before after
 run_on f file named_world brief i w r before after quiet read second answers =
     answers_weaker (IsRunOutput i w brief) (Says (run file named_world brief) f) r before after
-    (λ s t output. done (image i ∷ (world w ∷ [])) quiet (read, second, tt) (runs file named_world brief i w refl refl output)) answers
+    (λ s t output. done (image i ∷ (world w ∷ [])) quiet (read, (second, tt)) (runs file named_world brief i w refl refl output)) answers
 
 -- ---- what is said has a status of its own
 

@@ -1,7 +1,10 @@
 -- What refusals tell, and a cabinet through two fetches.
 use Rattle.std.proofs.Common.{◌≡◌, ◌⊎◌, ℕ, ◌≤◌, ◌<◌, Bool, IsTrue, Option, Some, List, [], ◌∷◌, ◌++◌, length, Result, Ok, Err, IfOk, IfErr, refl, sym, ap, subst, ◌∙◌}
 use Rattle.std.proofs.Math.Path.{fun_ext}
-use Rattle.ease_base.specs.Cabinet.{Contents, Lacks}
+use Rattle.std.specs.Prelude.{IsErrOf}
+use Rattle.ease_base.specs.Cabinet.{Contents, Lacks, counted}
+use Rattle.ease_base.specs.declared.error.FetchError.{FetchError}
+use Rattle.ease_base.specs.declared.error.FetchError.TheVariants as fetch
 use Rattle.ease_base.specs.Count.{HasRisen, raised}
 use Rattle.ease_base.specs.declared.error.NoMemory.{NoMemory}
 use Rattle.ease_cli.specs.Answer.{Tells, IsRead, Stops, IsReadInVain, unbrought, refused}
@@ -44,14 +47,14 @@ pub unbrought_stops : (f : Files) (at : Wanted) (before : List Input) (r : Refus
 unbrought_stops f at before r told = tells_weaker (IsUnbrought f at.name (limit_of at.kind)) (Stops f at before) r (λ s t is. unbrought is) told
 
 -- a cabinet that was quiet in a first fetch is in a second as in both
-pub both_fetches : (told told1 : Bool) (contents contents1 : Contents) (faults faults1 faults2 long long1 long2 : ℕ)
-    → told1 ≡ told → ((name : List ℕ) → contents1 name ≡ contents name) → faults1 ≡ faults → long1 ≡ long
-    → files_of told1 contents1 faults1 faults2 long1 long2 ≡ files_of told contents faults faults2 long long2
-both_fetches told told1 contents contents1 faults faults1 faults2 long long1 long2 t c f l =
-    ap (λ (x : Bool). files_of x contents1 faults1 faults2 long1 long2) t
-    ∙ ap (λ (x : Contents). files_of told x faults1 faults2 long1 long2) (fun_ext c)
-    ∙ ap (λ (x : ℕ). files_of told contents x faults2 long1 long2) f
-    ∙ ap (λ (x : ℕ). files_of told contents faults faults2 x long2) l
+pub both_fetches : (told told1 : Bool) (contents contents1 : Contents) (a a1 a2 b b1 b2 : ℕ)
+    → told1 ≡ told → ((name : List ℕ) → contents1 name ≡ contents name) → a1 ≡ a → b1 ≡ b
+    → files_of told1 contents1 a1 a2 b1 b2 ≡ files_of told contents a a2 b b2
+both_fetches told told1 contents contents1 a a1 a2 b b1 b2 t c f l =
+    ap (λ (x : Bool). files_of x contents1 a1 a2 b1 b2) t
+    ∙ ap (λ (x : Contents). files_of told x a1 a2 b1 b2) (fun_ext c)
+    ∙ ap (λ (x : ℕ). files_of told contents x a2 b1 b2) f
+    ∙ ap (λ (x : ℕ). files_of told contents a a2 x b2) l
 
 -- what was brought stays so, whatever the counts become
 pub read_stays : (told : Bool) (contents : Contents) (a a1 a2 l l1 l2 : ℕ) (at : Wanted) (before : List Input) (input : Input)
@@ -70,3 +73,26 @@ pub long_tells : (f : Files) (name : List ℕ) (limit : ℕ) (text : Result (Lis
     → IfOk text (λ t. t ≡ too_long) → Tells (λ s t. (s ≡ ends.TooLong) × (text ≡ Ok t)) r → Tells (IsUnbrought f name limit) r
 long_tells f name limit text r steady rose why spelled told =
     tells_line (λ t. t ≡ too_long) (IsUnbrought f name limit) ends.TooLong text r spelled told (λ t is made. long refl is steady rose why)
+
+-- what a fetch that failed, and one of a long file, say at their case
+not_failed : (x : FetchError) → x ≡ fetch.TooLong → IsErrOf {T = Unit {0}} (Err x) fetch.Failed → ⊥
+not_failed x is other = cc
+
+pub failed_case : (f : Files) (x : FetchError) (name : List ℕ) (limit : ℕ) (text : Result (List ℕ) NoMemory) (r : Refusal) → x ≡ fetch.Failed
+    → f.long_after ≡ counted f.long (Err x) → (IsErrOf {T = Unit {0}} (Err x) fetch.Failed → HasRisen f.faults f.faults_after ⊎ Lacks f.told f.contents name)
+    → IfOk text (λ t. t ≡ read_fault) → Tells (λ s t. (s ≡ ends.ReadFault) × (text ≡ Ok t)) r → Tells (IsUnbrought f name limit) r
+failed_case f x name limit text r is steady why spelled told =
+    failed_tells f name limit text r (steady ∙ ap (λ (y : FetchError). counted f.long (Err y)) is) (why (ap Err is)) spelled told
+
+pub long_case : (f : Files) (x : FetchError) (name : List ℕ) (limit : ℕ) (text : Result (List ℕ) NoMemory) (r : Refusal) → x ≡ fetch.TooLong
+    → ((IsErrOf {T = Unit {0}} (Err x) fetch.Failed → ⊥) → f.faults_after ≡ f.faults) → f.long_after ≡ counted f.long (Err x)
+    → (IsErrOf {T = Unit {0}} (Err x) fetch.TooLong → (IsTrue f.told → (bytes : List ℕ) × (f.contents name ≡ Some bytes) × (limit < length bytes)))
+    → IfOk text (λ t. t ≡ too_long) → Tells (λ s t. (s ≡ ends.TooLong) × (text ≡ Ok t)) r → Tells (IsUnbrought f name limit) r
+long_case f x name limit text r is steady rose why spelled told =
+    long_tells f name limit text r (steady (not_failed x is)) (rose ∙ ap (λ (y : FetchError). counted f.long (Err y)) is) (why (ap Err is)) spelled told
+
+-- what tells why a file ends a command is no write fault
+pub told_is_no_write_fault : (P : Status → List ℕ → Type 0) (e : Refusal) (r : Result Status Refusal) → Tells P e → r ≡ Err e → IsErrOf r refusal.WriteFault → ⊥
+told_is_no_write_fault P (refusal.Refused s t) r told is other = cc
+told_is_no_write_fault P refusal.WriteFault r told is other = told
+told_is_no_write_fault P refusal.NoMemory r told is other = cc

@@ -1,9 +1,13 @@
 -- What follows from what is written: the status of words that are no command, of faults, and of files that are there.
-use Rattle.std.proofs.Common.{◌≡◌, ◌⊎◌, ℕ, ◌<◌, ◌≤◌, Bool, true, false, IsTrue, List, [], ◌∷◌, ◌++◌, length, Option, Some, None, refl, sym, ap, subst, ◌∙◌, arith, inl, inr}
+use Rattle.std.proofs.Common.{◌≡◌, ◌⊎◌, ℕ, ◌<◌, ◌≤◌, Bool, true, false, IsTrue, List, [], ◌∷◌, ◌++◌, length, Option, Some, None, Result, Ok, Err, refl, sym, ap, subst, ◌∙◌, arith, inl, inr}
 use Rattle.command_line.specs.Form.{Form}
 use Rattle.ease_base.specs.Cabinet.{Contents, Brings, Lacks}
 use Rattle.ease_base.specs.Count.{HasRisen, raised}
-use Rattle.ease_cli.specs.Answer.{AreRead, Reaches, Stops, unbrought, refused, Says, stopped, done, IsUsage, LineSays, Writes, TellsFetchFault}
+use Rattle.ease_base.specs.Sink.{extended}
+use Rattle.ease_cli.proofs.AnswerLemmas.{writes_line, refusal_has_line}
+use Rattle.ease_cli.specs.declared.refusal.Refusal.{Refusal}
+use Rattle.ease_cli.specs.declared.refusal.Refusal.TheVariants as refusal
+use Rattle.ease_cli.specs.Answer.{Answers, AreRead, Reaches, Stops, unbrought, refused, Says, stopped, done, IsUsage, LineSays, Writes, TellsFetchFault}
 use Rattle.ease_cli.specs.Files.{Files, Wanted, wanted, limit_of, IsQuiet, IsBrought, IsUnbrought, failed, long}
 use Rattle.ease_cli.specs.Inputs.{Input}
 use Rattle.ease_cli.specs.Settled.{AreThere, CanBeRead, Settles, accepted, no_memory}
@@ -52,17 +56,17 @@ usage_line : (form : Option Form) (f : Files) (s : Status) (t : List ℕ) → fo
 usage_line form f s t none said = let usage : IsUsage f s t = subst (λ (o : Option Form). LineSays o f s t) none said in usage.status_is
 
 pub none_is_usage : (form : Option Form) (f : Files) (s : Status) (before after : Option (List ℕ)) → form ≡ None → Writes (LineSays form f) s before after → (s ≡ ends.Usage) ⊎ (s ≡ ends.WriteFault) ⊎ (s ≡ ends.NoMemory)
-none_is_usage form f ends.Ok before after none w = inl (inl (usage_line form f ends.Ok w.0 none w.1))
-none_is_usage form f ends.Usage before after none w = inl (inl refl)
-none_is_usage form f ends.SourceRefused before after none w = inl (inl (usage_line form f ends.SourceRefused w.0 none w.1))
-none_is_usage form f ends.WorldRefused before after none w = inl (inl (usage_line form f ends.WorldRefused w.0 none w.1))
-none_is_usage form f ends.ImageRefused before after none w = inl (inl (usage_line form f ends.ImageRefused w.0 none w.1))
-none_is_usage form f ends.TooLong before after none w = inl (inl (usage_line form f ends.TooLong w.0 none w.1))
-none_is_usage form f ends.Trapped before after none w = inl (inl (usage_line form f ends.Trapped w.0 none w.1))
-none_is_usage form f ends.PowerEnded before after none w = inl (inl (usage_line form f ends.PowerEnded w.0 none w.1))
-none_is_usage form f ends.ReadFault before after none w = inl (inl (usage_line form f ends.ReadFault w.0 none w.1))
-none_is_usage form f ends.WriteFault before after none w = inl (inr refl)
-none_is_usage form f ends.NoMemory before after none w = inr refl
+none_is_usage form f ends.Ok before after none w = inl ((usage_line form f ends.Ok w.0 none w.1))
+none_is_usage form f ends.Usage before after none w = inl refl
+none_is_usage form f ends.SourceRefused before after none w = inl ((usage_line form f ends.SourceRefused w.0 none w.1))
+none_is_usage form f ends.WorldRefused before after none w = inl ((usage_line form f ends.WorldRefused w.0 none w.1))
+none_is_usage form f ends.ImageRefused before after none w = inl ((usage_line form f ends.ImageRefused w.0 none w.1))
+none_is_usage form f ends.TooLong before after none w = inl ((usage_line form f ends.TooLong w.0 none w.1))
+none_is_usage form f ends.Trapped before after none w = inl ((usage_line form f ends.Trapped w.0 none w.1))
+none_is_usage form f ends.PowerEnded before after none w = inl ((usage_line form f ends.PowerEnded w.0 none w.1))
+none_is_usage form f ends.ReadFault before after none w = inl ((usage_line form f ends.ReadFault w.0 none w.1))
+none_is_usage form f ends.WriteFault before after none w = inr (inl refl)
+none_is_usage form f ends.NoMemory before after none w = inr (inr refl)
 
 -- ---- files that are there
 
@@ -83,18 +87,18 @@ risen before after is = subst (λ (n : ℕ). n ≤ after) is (omega arith)
 -- can't be kept from being read
 brought_always : (c : Form) (f : Files) (at : Wanted) (before : List Input) (s : Status) (t : List ℕ) → CanBeRead c f → Reaches f c at before → IsUnbrought f at.name (limit_of at.kind) s t → ⊥
 brought_always c f at before s t can reaches (failed is line steady why) = elim why [
-    | inl rose ↦ can.steady rose
-    | inr lacks ↦
-        let there = there_at f.contents reaches.front at reaches.back (subst (AreThere f.contents) reaches.order (can.there lacks.0)) in
-        none_lacks (f.contents at.name) there.0 there.1 lacks.1
-  ]
+  | inl rose ↦ can.steady rose
+  | inr lacks ↦
+      let there = there_at f.contents reaches.front at reaches.back (subst (AreThere f.contents) reaches.order (can.there lacks.0)) in
+      none_lacks (f.contents at.name) there.0 there.1 lacks.1
+]
 brought_always c f at before s t can reaches (long is line steady rose why) = elim can.short [
-    | inl told ↦
-        let there = there_at f.contents reaches.front at reaches.back (subst (AreThere f.contents) reaches.order (can.there told)) in
-        let w = why told in
-        not_long (f.contents at.name) (limit_of at.kind) there.0 w.0 there.1 there.2 w.1 w.2
-    | inr still ↦ still (risen f.long f.long_after rose)
-  ]
+  | inl told ↦
+      let there = there_at f.contents reaches.front at reaches.back (subst (AreThere f.contents) reaches.order (can.there told)) in
+      let w = why told in
+      not_long (f.contents at.name) (limit_of at.kind) there.0 w.0 there.1 there.2 w.1 w.2
+  | inr still ↦ still (risen f.long f.long_after rose)
+]
 
 says_settles : (c : Form) (f : Files) (s : Status) (t : List ℕ) → CanBeRead c f → Says c f s t → Settles c f s
 says_settles c f s t can (stopped at before reaches (unbrought why)) = absurd (brought_always c f at before s t can reaches why)
@@ -117,3 +121,10 @@ written_settles form c f ends.Trapped before after some can whole w = line_settl
 written_settles form c f ends.PowerEnded before after some can whole w = line_settles form c f ends.PowerEnded w.0 some can w.1
 written_settles form c f ends.WriteFault before after some can whole w = absurd (whole refl)
 written_settles form c f ends.NoMemory before after some can whole w = no_memory refl
+
+-- a refusal whose line was written whole settles the status
+pub settles_by_line : (form : Option Form) (f : Files) (e : Refusal) (s : Status) (t sent : List ℕ) (before mid after : Option (List ℕ)) (c : Form) → e ≡ refusal.Refused s t
+    → Answers (LineSays form f) (Err e) before mid → sent ≡ t → after ≡ extended mid sent → form ≡ Some c → CanBeRead c f → Settles c f s
+settles_by_line form f e s t sent before mid after c is answers same wrote some can =
+    let told : Answers (LineSays form f) (Err (refusal.Refused s t)) before mid = subst (λ (x : Refusal). Answers (LineSays form f) (Err x) before mid) is answers in
+    written_settles form c f s before after some can (refusal_has_line form f s t before mid told) (writes_line form f s t sent before mid after told same wrote)

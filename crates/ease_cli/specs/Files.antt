@@ -63,6 +63,6 @@ pub record IsBrought (f : Files) (name : List ℕ) (limit : ℕ) (bytes : List �
 -- told contents lack the file; or it is too long, which alone raises the count of long contents, by one.
 pub data IsUnbrought (f : Files) (name : List ℕ) (limit : ℕ) (status : Status) (text : List ℕ) : Type 0 where
   failed : status ≡ ReadFault → text ≡ read_fault → f.long_after ≡ f.long
-    → HasRisen f.faults f.faults_after ⊎ Lacks f.told f.contents name → IsUnbrought f name limit status text
+      → HasRisen f.faults f.faults_after ⊎ Lacks f.told f.contents name → IsUnbrought f name limit status text
   long : status ≡ TooLong → text ≡ too_long → f.faults_after ≡ f.faults → f.long_after ≡ raised f.long
-    → (IsTrue f.told → (bytes : List ℕ) × (f.contents name ≡ Some bytes) × (limit < length bytes)) → IsUnbrought f name limit status text
+      → (IsTrue f.told → (bytes : List ℕ) × (f.contents name ≡ Some bytes) × (limit < length bytes)) → IsUnbrought f name limit status text

@@ -50,6 +50,6 @@ retained_of (image i ∷ rest) = []
 -- What each command writes, over its files: one row for each command.
 pub data IsOutput (c : Form) (inputs : List Input) (status : Status) (text : List ℕ) : Type 0 where
   walks : (program : List ℕ) (tasks : ℕ) (named : Option (List ℕ)) (p : Program) (rest : List Input) → c ≡ walk program tasks named → inputs ≡ tree p ∷ rest
-    → IsWalkOutput (core_of p) (retained_of rest) tasks status text → IsOutput c inputs status text
+      → IsWalkOutput (core_of p) (retained_of rest) tasks status text → IsOutput c inputs status text
   runs : (file named : List ℕ) (brief : Bool) (i : Image) (w : World) → c ≡ run file named brief → inputs ≡ image i ∷ (world w ∷ [])
-    → IsRunOutput i w brief status text → IsOutput c inputs status text
+      → IsRunOutput i w brief status text → IsOutput c inputs status text

@@ -26,5 +26,5 @@ pub record CanBeRead (c : Form) (f : Files) : Type 0 where
 pub data Settles (c : Form) (f : Files) (status : Status) : Type 0 where
   accepted : (inputs : List Input) (text : List ℕ) → AreRead f [] (wanted c) inputs → IsOutput c inputs status text → Settles c f status
   refused : (at : Wanted) (before : List Input) (bytes : List ℕ) → Reaches f c at before → IsBrought f at.name (limit_of at.kind) bytes
-    → IsNoInput at.kind before bytes → status ≡ refused_status at.kind → Settles c f status
+      → IsNoInput at.kind before bytes → status ≡ refused_status at.kind → Settles c f status
   no_memory : status ≡ NoMemory → Settles c f status

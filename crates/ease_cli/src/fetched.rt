@@ -30,11 +30,7 @@ const IMAGE_LIMIT: usize = 40_000_000;
 const WORLD_LIMIT: usize = 1_048_576;
 
 /// The checked form of the program in a file.
-pub fn fetch_program<C: Cabinet>(
-    alloc: Global,
-    files: &mut C,
-    name: &str,
-) -> Result<Core, Refusal>
+pub fn fetch_program<C: Cabinet>(alloc: Global, files: &mut C, name: &str) -> Result<Core, Refusal>
     ensures read { IfOk result (λ core. (p : Program) × IsRead (files_of (C.told files.old) (C.contents files.old) (C.faults files.old) (C.faults files.new) (C.long_contents files.old) (C.long_contents files.new))
         (named source_file name.now) [] (inputs.tree p) × (core ≡ core_of p)) }
     ensures stops { IfErr result (Tells (Stops (files_of (C.told files.old) (C.contents files.old) (C.faults files.old) (C.faults files.new) (C.long_contents files.old) (C.long_contents files.new))
@@ -51,11 +47,7 @@ pub fn fetch_program<C: Cabinet>(
 }
 
 /// The image in a file.
-pub fn fetch_image<C: Cabinet>(
-    alloc: Global,
-    files: &mut C,
-    name: &str,
-) -> Result<Image, Refusal>
+pub fn fetch_image<C: Cabinet>(alloc: Global, files: &mut C, name: &str) -> Result<Image, Refusal>
     ensures read { IfOk result (λ image. IsRead (files_of (C.told files.old) (C.contents files.old) (C.faults files.old) (C.faults files.new) (C.long_contents files.old) (C.long_contents files.new))
         (named image_file name.now) [] (inputs.image image)) }
     ensures stops { IfErr result (Tells (Stops (files_of (C.told files.old) (C.contents files.old) (C.faults files.old) (C.faults files.new) (C.long_contents files.old) (C.long_contents files.new))
@@ -80,10 +72,10 @@ pub fn fetch_world<C: Cabinet>(
     requires apart { AreApart names.now }
     ensures read { (before : List inputs.Input) → inputs.names_of before ≡ names.now
         → IfOk result (λ world. IsRead (files_of (C.told files.old) (C.contents files.old) (C.faults files.old) (C.faults files.new) (C.long_contents files.old) (C.long_contents files.new))
-            (named world_file name.now) before (inputs.world world)) }
+        (named world_file name.now) before (inputs.world world)) }
     ensures stops { (before : List inputs.Input) → inputs.names_of before ≡ names.now
         → IfErr result (Tells (Stops (files_of (C.told files.old) (C.contents files.old) (C.faults files.old) (C.faults files.new) (C.long_contents files.old) (C.long_contents files.new))
-            (named world_file name.now) before)) }
+        (named world_file name.now) before)) }
     ensures quiet { OnOk result (IsQuiet (files_of (C.told files.old) (C.contents files.old) (C.faults files.old) (C.faults files.new) (C.long_contents files.old) (C.long_contents files.new))) }
     ensures within { IfOk result IsWithinLimits }
     ensures told { C.told files.new ≡ C.told files.old }
@@ -120,10 +112,7 @@ fn fetch_bytes<C: Cabinet>(
             Status::ReadFault,
             Text::from_slice(alloc, READ_FAULT),
         )),
-        Err(FetchError::TooLong) => Err(refuse(
-            Status::TooLong,
-            Text::from_slice(alloc, TOO_LONG),
-        )),
+        Err(FetchError::TooLong) => Err(refuse(Status::TooLong, Text::from_slice(alloc, TOO_LONG))),
         Err(FetchError::NoMemory) => Err(Refusal::NoMemory),
     }
 }
