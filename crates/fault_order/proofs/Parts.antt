@@ -25,11 +25,11 @@ pub part_behind : (ys xs zs : List Pos) → IsPart xs zs → IsPart xs (ys ++ zs
 part_behind [] xs zs h = h
 part_behind (y ∷ ys) xs zs h = part_more y xs (ys ++ zs) (part_behind ys xs zs h)
 
-pub part_join : (as bs xs ys : List Pos) → IsPart as xs → IsPart bs ys → IsPart (as ++ bs) (xs ++ ys)
-part_join [] bs xs ys h k = part_behind xs bs ys k
-part_join (a ∷ as) bs [] ys h k = absurd h
-part_join (a ∷ as) bs (x ∷ xs) ys (inl h) k = inl (h.0, part_join as bs xs ys h.1 k)
-part_join (a ∷ as) bs (x ∷ xs) ys (inr h) k = inr (part_join (a ∷ as) bs xs ys h k)
+pub part_join : (ps qs xs ys : List Pos) → IsPart ps xs → IsPart qs ys → IsPart (ps ++ qs) (xs ++ ys)
+part_join [] qs xs ys h k = part_behind xs qs ys k
+part_join (p ∷ ps) qs [] ys h k = absurd h
+part_join (p ∷ ps) qs (x ∷ xs) ys (inl h) k = inl (h.0, part_join ps qs xs ys h.1 k)
+part_join (p ∷ ps) qs (x ∷ xs) ys (inr h) k = inr (part_join (p ∷ ps) qs xs ys h k)
 
 pub part_through : (xs ys zs : List Pos) → IsPart xs ys → IsPart ys zs → IsPart xs zs
 part_through [] ys zs h k = tt

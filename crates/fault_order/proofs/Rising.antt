@@ -1,5 +1,5 @@
 -- The places of a text's tokens rise.
-use Rattle.std.proofs.Common.{◌≡◌, ◌≢◌, ◌∙◌, ◌⊎◌, inl, inr, ℕ, ◌+◌, ◌<◌, Bool, true, false, List, [], ◌∷◌, ◌++◌, map, Option, Some, None, refl, sym, ap, subst, arith, eqb}
+use Rattle.std.proofs.Common.{◌≡◌, ◌≢◌, ◌∙◌, ◌⊎◌, inl, inr, ℕ, ◌+◌, ◌<◌, Bool, true, false, List, [], ◌∷◌, ◌++◌, map, Option, Some, None, refl, sym, ap, subst, arith, eqb, if◌then◌else◌}
 use Rattle.std.specs.List.{AllByRecursion}
 use Rattle.ease_base.specs.declared.place.Pos.{Pos}
 use Rattle.task_tokens.specs.declared.token.Keyword.{Keyword}
@@ -129,6 +129,7 @@ tokens_from at (p ∷ ps) = by_piece p.lexeme (later (places (tokens_of (behind 
     later : (qs : List Pos) → AllByRecursion (IsFrom (behind at p.bytes)) qs → AllByRecursion (IsFrom at) qs
     later [] all = tt
     later (q ∷ qs) all = (from_through at (behind at p.bytes) q (behind_from at p.bytes) all.0, later qs all.1)
+
     by_piece : (x : Option Lexeme) → AllByRecursion (IsFrom at) (places (tokens_of (behind at p.bytes) ps)) → AllByRecursion (IsFrom at) (places (with_token x at (tokens_of (behind at p.bytes) ps)))
     by_piece None all = all
     by_piece (Some x) all = (inl refl, all)
@@ -140,6 +141,7 @@ tokens_rise at (p ∷ ps) rest h = by_piece p.lexeme h.0 (tokens_rise (behind at
     after : IsBefore at (behind at p.bytes) → (qs : List Pos) → AllByRecursion (IsFrom (behind at p.bytes)) qs → AllByRecursion (IsBefore at) qs
     after k [] all = tt
     after k (q ∷ qs) all = (before_from at (behind at p.bytes) q k all.0, after k qs all.1)
+
     by_piece : (x : Option Lexeme) → Fits p.bytes (joined ps rest) x → Rise (places (tokens_of (behind at p.bytes) ps)) → Rise (places (with_token x at (tokens_of (behind at p.bytes) ps)))
     by_piece None fits rise = rise
     by_piece (Some x) fits rise = (after (behind_some at p.bytes (spelled_some p.bytes x fits.0)) (places (tokens_of (behind at p.bytes) ps)) (tokens_from (behind at p.bytes) ps), rise)

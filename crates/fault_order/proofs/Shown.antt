@@ -1,5 +1,5 @@
 -- The places in a value of a form are those of its tokens, with some left out.
-use Rattle.std.proofs.Common.{◌≡◌, ◌∙◌, ◌⊎◌, inl, inr, List, [], ◌∷◌, ◌++◌, refl, sym, ap, subst, append_assoc, append_nil}
+use Rattle.std.proofs.Common.{◌≡◌, ◌∙◌, ◌⊎◌, inl, inr, List, [], ◌∷◌, ◌++◌, refl, sym, ap, subst, append_assoc, append-nil}
 use Rattle.std.specs.List.{flat_map}
 use Rattle.ease_base.specs.declared.place.Pos.{Pos}
 use Rattle.task_ast.specs.declared.tree.Name.{Name}
@@ -30,7 +30,7 @@ numbered-shows = record { shows = λ n tokens w. subst (λ ts. IsPart (n.at ∷ 
 pub done-shows : {T : Type 0} {before : List Pos} {at : T → List Pos} (v : T) → IsPart (at v) before → Shows before at (Done v)
 done-shows {T} {before} {at} v part = record {
   shows = λ y tokens h.
-      subst (λ (x : T). IsPart (at x) (before ++ places tokens)) h.0 (subst (λ (ts : List Token). IsPart (at v) (before ++ places ts)) (sym h.1) (subst (IsPart (at v)) (sym (append_nil before)) part));
+      subst (λ (x : T). IsPart (at x) (before ++ places tokens)) h.0 (subst (λ (ts : List Token). IsPart (at v) (before ++ places ts)) (sym h.1) (subst (IsPart (at v)) (sym (append-nil before)) part));
 }
 
 parted : (before : List Pos) (tokens front back : List Token) → tokens ≡ front ++ back → before ++ places tokens ≡ before ++ places front ++ places back
@@ -65,7 +65,7 @@ either-shows {T} {before} {at} {P} {Q} one two = record { shows = by_form }
 pub inside_part : (first last : Sign) (P : List Token → Type 0) (tokens : List Token) (b : IsBetween first last P tokens) → IsPart (places b.inner) (places tokens)
 inside_part first last P tokens b =
     let front : IsPart (places b.inner ++ []) (places b.inner ++ b.at_last ∷ []) = part_join (places b.inner) [] (places b.inner) (b.at_last ∷ []) (part_same (places b.inner)) tt in
-    let inner : IsPart (places b.inner) (places b.inner ++ b.at_last ∷ []) = subst (λ ps. IsPart ps (places b.inner ++ b.at_last ∷ [])) (append_nil (places b.inner)) front in
+    let inner : IsPart (places b.inner) (places b.inner ++ b.at_last ∷ []) = subst (λ ps. IsPart ps (places b.inner ++ b.at_last ∷ [])) (append-nil (places b.inner)) front in
     let all : IsPart (places b.inner) (b.at_first ∷ places b.inner ++ b.at_last ∷ []) = part_behind (b.at_first ∷ []) (places b.inner) (places b.inner ++ b.at_last ∷ []) inner in
     let same : places tokens ≡ b.at_first ∷ places b.inner ++ b.at_last ∷ [] = ap places b.whole ∙ ap (λ ps. b.at_first ∷ ps) (places_append b.inner (symbol last b.at_last ∷ [])) in
     subst (IsPart (places b.inner)) (sym same) all

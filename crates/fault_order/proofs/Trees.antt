@@ -1,5 +1,5 @@
 -- The places of every program that a text has.
-use Rattle.std.proofs.Common.{◌≡◌, ◌∙◌, ℕ, zero, suc, List, [], ◌∷◌, ◌++◌, Option, Some, None, refl, sym, ap, subst, append_assoc, append_nil}
+use Rattle.std.proofs.Common.{◌≡◌, ◌∙◌, ℕ, zero, suc, List, [], ◌∷◌, ◌++◌, Option, Some, None, refl, sym, ap, subst, append_assoc, append-nil}
 use Rattle.std.specs.List.{flat_map}
 use Rattle.ease_base.specs.declared.place.Pos.{Pos}
 use Rattle.task_ast.specs.declared.tree.Ann.{Ann}
@@ -107,7 +107,7 @@ head-shows = then-shows start-shows (λ s. then-shows bound-shows (λ n. skip-sh
 call-shows : (x : Option Target) → Shows (reading_places x) stmt_places (IsCall x)
 call-shows x =
     then-shows word-shows (λ at. skip-shows (λ _. then-shows named-shows (λ p. skip-shows (λ _. skip-shows (λ a. then-shows (all-show argument-shows)
-    (λ args. skip-shows (λ _. skip-shows (λ _. done-shows (stmt.Io x p a args at) (part_of_same _ _ (sym (called (reading_places x) at p.at (flat_map expr_places args)))))))))))
+    (λ args. skip-shows (λ _. skip-shows (λ _. done-shows (stmt.Io x p a args at) (part_of_same _ _ (sym (called (reading_places x) at p.at (flat_map expr_places args))))))))))))
   where
     called : (xs : List Pos) (a b : Pos) (ys : List Pos) → xs ++ a ∷ [] ++ b ∷ [] ++ ys ≡ xs ++ a ∷ b ∷ ys
     called xs a b ys = simp append_assoc
