@@ -4,7 +4,7 @@ use Rattle.toml.specs.Data.{as_array, get_member}
 use Rattle.toml.specs.View.{array_view, table_view}
 use Rattle.world_file.proofs.SeenLemmas.{mapped_values}
 use Rattle.world_file.specs.WorldFile.{row_of}
-use Rattle.world_file.proofs.parts.power_of.Goals as goal
+use Rattle.world_file.proofs.parts.rows_of.Goals as goal
 
 pub returns-in-Some : goal.returns-in-Some
 returns-in-Some c =
