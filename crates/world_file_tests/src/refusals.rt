@@ -5,7 +5,8 @@ use std::alloc::Global;
 use std::test::Fail;
 
 /// The example of docs/FORMATS.md, "World files", without its comments.
-const EXAMPLE: &str = "retained = [25, 26]\n[[power]]\non = 100\noff = 50\nfill = 0\n[readings]\ntemp = [20, 21]\n";
+const EXAMPLE: &str =
+    "retained = [25, 26]\n[[power]]\non = 100\noff = 50\nfill = 0\n[readings]\ntemp = [20, 21]\n";
 
 /// A change: the text that goes, what stands in its place, and what is then told.
 static CHANGES: [(&str, &str, &str); 38] = [
