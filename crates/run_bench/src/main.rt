@@ -1,6 +1,7 @@
 //! Runs images and writes their reports, so that host instructions can be counted: `steps N` without an event, `lines N` steps of
 //! which every second one issues four arguments, or `rows N` power rows of no steps. bench/run calls it.
 #![tactic(auto)]
+
 ghost use Rattle.std.specs.Prelude.{◌≤◌, IfOk};
 ghost use Rattle.power_trace.specs.Run.{AreWithinLimits};
 
@@ -11,7 +12,6 @@ use std::alloc::Global;
 use std::env;
 use std::env::Env;
 use std::process::ExitCode;
-use std::rt::Print;
 use word_isa::{Image, Instr, encode, unnamed_image};
 
 fn main(rt: HostRuntime) -> ExitCode {
