@@ -1,5 +1,6 @@
 -- Worlds of short rows are within the limits.
-use Rattle.std.proofs.Common.{◌≡◌, ◌∙◌, ℕ, zero, suc, ◌+◌, ◌<◌, ◌≤◌, All, List, [], ◌∷◌, length, refl, ap, sym, subst, lit≤, arith}
+use Rattle.std.proofs.Common.{◌≡◌, ◌∙◌, ℕ, zero, suc, ◌+◌, ◌^◌, ◌<◌, ◌≤◌, All, List, [], ◌∷◌, length, get_or, refl, ap, sym, subst, lit≤, arith}
+use Rattle.std.proofs.lemmas.Grind.{get_or_default_zero}
 use Rattle.std.specs.List.{IsDistinct}
 use Rattle.devices.specs.World.{AreDistinct, AreWords, IsRow, IsFeed, IsWithinLimits, steps_of, ticks_of}
 use Rattle.devices.specs.declared.world.Feed.{Feed}
@@ -44,6 +45,10 @@ one_distinct values = (tt, tt)
 one_fits : (values : List ℕ) → AreWords values → All IsFeed (record { number = 0; values = values } ∷ [])
 one_fits values words zero d h = record { number = lit≤ tt; values = words }
 one_fits values words (suc k) d h = absurd (omega (arith, h))
+
+-- numbers of 32 bits, each read with the default 0
+pub words_of : (values : List ℕ) → ((i : ℕ) → get_or values i 0 < 2 ^ 32) → AreWords values
+words_of values fits k d h = subst (λ x. x < 2 ^ 32) (sym (get_or_default_zero values k d h)) (fits k)
 
 pub within : (w : World) (values : List ℕ) → AreShort w.power → w.feeds ≡ record { number = 0; values = values } ∷ [] → AreWords values → w.retained ≡ [] → IsWithinLimits w
 within w values short feeds words none = record {
