@@ -1,0 +1,3 @@
+pub mod Depend
+pub mod Flow
+pub mod Sets
