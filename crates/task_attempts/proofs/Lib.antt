@@ -1,0 +1,5 @@
+mod AlongLaws
+mod AttemptLaws
+mod CallRows
+mod Programs
+mod Sense

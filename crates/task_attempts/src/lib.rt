@@ -1,0 +1,2 @@
+//! The rules of attempts: which operation a batteryless computer does again, and when.
+#![tactic(auto)]
