@@ -25,14 +25,14 @@ use Rattle.walk_run.specs.Walk.{move_words}
 use Rattle.walk_run.specs.Plain.{Ran, done, trapped, chosen, plain_done}
 use Rattle.walk_run.specs.PlainSteps.{expr_steps, target_steps, end_steps, condition_steps, plain_steps}
 use Rattle.devices.specs.Journal.{JournalEvent, keep, looks, keeps, drops, issues, seals, copies}
-use Rattle.task_attempts.specs.State.{Setting, Valued, arguments, range, Record, of_reading, of_block, of_copy, Here, Log, Rest, Steps}
+use Rattle.task_attempts.specs.State.{Setting, Valued, arguments, range, Record, of_reading, of_block, of_copy, Followed, Here, Log, Rest, Steps}
 use Rattle.task_attempts.specs.Changes.{with_store, with_mode, with_steps, spent, spent_by, with_record, with_looks, with_issue, with_region}
 use Rattle.task_attempts.specs.Costs.{call_steps, block_steps, copy_steps, moving_steps}
-use Rattle.task_attempts.specs.Told.{logged, told, trap, unless_trap, drop_one, drop_all, seal, look}
+use Rattle.task_attempts.specs.Told.{logged, told, told_following, trap, unless_trap, drop_one, drop_all, seal, look}
 use Rattle.task_attempts.specs.Values.{value, values, reading_place, put_into, copy_end, tested, branch, from_ran, plain_log}
-use Rattle.task_attempts.specs.Calls.{annotation, number_of, issue, issue_anew, kept_in, issued_with, by_choice, by_record, call_log}
-use Rattle.task_attempts.specs.Blocks.{stamp_in, block_sealed, block_end, block_log}
-use Rattle.task_attempts.specs.Copies.{words_at, put_words, shown, class_at, copy_valued, moved, brought, single_copy, private_copy, copy_by_class, again, copy_again, copy_anew, copy_by_record, copy_log}
+use Rattle.task_attempts.specs.Calls.{annotation, number_of, issue, issue_anew, kept_in, issued_with, by_choice, by_record, call_inside, call_log}
+use Rattle.task_attempts.specs.Blocks.{stamp_in, block_sealed, block_end, block_inside, block_log}
+use Rattle.task_attempts.specs.Copies.{words_at, put_words, shown, class_at, copy_valued, moved, brought, single_sealed, single_copy, private_copy, copy_by_class, again, copy_again, copy_anew, copy_by_record, copy_log}
 use Rattle.task_attempts.specs.Attempts.{statement_log, row_log, body_log, exit_log}
 use Rattle.task_attempts.specs.Along.{IsInner, IsLater, GoesAlong}
 
@@ -129,7 +129,12 @@ module _ (P : Here → Steps → Log → Log → Type 0) (along : GoesAlong P) w
 
   anew_goes : (setting : Setting) (k p : ℕ) (args : List ℕ) (t : ℕ) (go go' : ℕ → Rest) → ((r : ℕ) → Goes (go r) (go' r)) → Goes (issue_anew setting k p args t go) (issue_anew setting k p args t go')
   anew_goes setting k p args t go go' goes =
-      drop_goes k _ _ (drops_go (dependents setting.task k) _ _ (issue_goes setting k p args _ _ (λ r. seal_goes k (of_reading r t args) (go r) (go' r) (goes r))))
+      let ks = dependents setting.task k in
+      let sealed : (ℕ → Rest) → ℕ → Rest = λ go r. seal k (of_reading r t args) (go r) in
+      let first = issue setting k p args (sealed go) in
+      let second = issue setting k p args (sealed go') in
+      drop_goes k (drop_all ks first) (drop_all ks second) (drops_go ks first second
+      (issue_goes setting k p args (sealed go) (sealed go') (λ r. seal_goes k (of_reading r t args) (go r) (go' r) (goes r))))
 
   choice_goes : (setting : Setting) (k p : ℕ) (made_with args : List ℕ) (t : ℕ) (go go' : ℕ → Rest) (c : Choice) → ((r : ℕ) → Goes (go r) (go' r)) → Goes (by_choice setting k p made_with args t go c) (by_choice setting k p made_with args t go' c)
   choice_goes setting k p made_with args t go go' (Keep v) goes here s =
@@ -143,11 +148,16 @@ module _ (P : Here → Steps → Log → Log → Type 0) (along : GoesAlong P) w
   put_goes None word go go' goes here s = goes here s
   put_goes (Some at) word go go' goes here s = stored_goes (put_word at word here.store) go go' goes here s
 
+  called_goes : (setting : Setting) (k p : ℕ) (at : Option Place) (words : List ℕ) (go go' : Rest) → Goes go go' → (t : ℕ) → Goes (call_inside setting k p at words go t) (call_inside setting k p at words go' t)
+  called_goes setting k p at words go go' goes t inside s =
+      record_goes setting k p words t (λ word after. go (put_into at word after)) (λ word after. go' (put_into at word after)) (inside.standing.account.records k)
+      (λ word. put_goes at word go go' goes) inside s
+
   call_goes : (setting : Setting) (k : ℕ) (onto : Option CoreTarget) (p : ℕ) (args : List CoreExpr) (go go' : Rest) → Goes go go' → Goes (call_log setting k onto p args go) (call_log setting k onto p args go')
   call_goes setting k onto p args go go' goes here s =
+      let number = number_of setting p in
       from_spent (call_steps setting.task k) here s _ _
-      (place_goes onto _ _ (λ at. values_go args _ _ (λ words. look_goes k _ _ (λ t inside s.
-      record_goes setting k (number_of setting p) words t _ _ (inside.standing.account.records k) (λ word. put_goes at word go go' goes) inside s)))
+      (place_goes onto _ _ (λ at. values_go args _ _ (λ words. look_goes k (call_inside setting k number at words go) (call_inside setting k number at words go') (called_goes setting k number at words go go' goes)))
       (spent (call_steps setting.task k) here) _)
 
   -- ---- blocks
@@ -157,36 +167,45 @@ module _ (P : Here → Steps → Log → Log → Type 0) (along : GoesAlong P) w
 
   sealed_goes : (k t : ℕ) (inside : Mode) (go go' : Rest) → Goes go go' → Goes (block_sealed k t inside go) (block_sealed k t inside go')
   sealed_goes k t mode.Keep go go' goes = goes
-  sealed_goes k t mode.Own go go' goes = drop_goes k _ _ (seal_goes k (of_block t) go go' goes)
-  sealed_goes k t mode.Force go go' goes = drop_goes k _ _ (seal_goes k (of_block t) go go' goes)
+  sealed_goes k t mode.Own go go' goes = drop_goes k (seal k (of_block t) go) (seal k (of_block t) go') (seal_goes k (of_block t) go go' goes)
+  sealed_goes k t mode.Force go go' goes = drop_goes k (seal k (of_block t) go) (seal k (of_block t) go') (seal_goes k (of_block t) go go' goes)
 
   block_end_goes : (k t : ℕ) (outside inside : Mode) (go go' : Rest) → Goes go go' → Goes (block_end k t outside inside go) (block_end k t outside inside go')
   block_end_goes k t outside inside go go' goes here s = from_spent block_steps here s _ _ (sealed_goes k t inside _ _ (mode_goes outside go go' goes) (spent block_steps here) _)
 
+  -- a block's body and its end
+  inside_goes : (setting : Setting) (k : ℕ) (body : Rest → Rest) → ((go go' : Rest) → Goes go go' → Goes (body go) (body go')) → (go go' : Rest) → Goes go go' → (t : ℕ)
+      → Goes (block_inside setting k body go t) (block_inside setting k body go' t)
+  inside_goes setting k body body_goes go go' goes t before s =
+      let inside = entered before.mode (annotation setting k) (stamp_in (before.standing.account.records k)) t in
+      mode_goes inside (body (block_end k t before.mode inside go)) (body (block_end k t before.mode inside go')) (body_goes _ _ (block_end_goes k t before.mode inside go go' goes)) before s
+
   block_goes : (setting : Setting) (k : ℕ) (body : Rest → Rest) → ((go go' : Rest) → Goes go go' → Goes (body go) (body go')) → (go go' : Rest) → Goes go go' → Goes (block_log setting k body go) (block_log setting k body go')
   block_goes setting k body body_goes go go' goes here s =
-      from_spent block_steps here s _ _
-      (look_goes k _ _ (λ t before s.
-      let inside = entered before.mode (annotation setting k) (stamp_in (before.standing.account.records k)) t in
-      mode_goes inside (body (block_end k t before.mode inside go)) (body (block_end k t before.mode inside go')) (body_goes _ _ (block_end_goes k t before.mode inside go go' goes)) before s)
-      (spent block_steps here) _)
+      from_spent block_steps here s _ _ (look_goes k (block_inside setting k body go) (block_inside setting k body go') (inside_goes setting k body body_goes go go' goes) (spent block_steps here) _)
 
   -- ---- copies
 
   moved_goes : (k : ℕ) (to from : Place) (n : ℕ) (go go' : Rest) → Goes go go' → Goes (moved k to from n go) (moved k to from n go')
-  moved_goes k to from n go go' goes here s = stored_goes (move_words n to from here.store) _ _ (told_goes (copies k (shown from) (shown to) n) tt go go' goes) here s
+  moved_goes k to from n go go' goes here s =
+      let event = copies k (shown from) (shown to) n in
+      stored_goes (move_words n to from here.store) (told event go) (told event go') (told_goes event tt go go' goes) here s
 
   brought_goes : (k : ℕ) (to : Place) (words : List ℕ) (go go' : Rest) → Goes go go' → Goes (brought k to words go) (brought k to words go')
-  brought_goes k to words go go' goes here s = stored_goes (put_words to words here.store) _ _ (told_goes (copies k keep (shown to) (length words)) tt go go' goes) here s
+  brought_goes k to words go go' goes here s =
+      let event = copies k keep (shown to) (length words) in
+      stored_goes (put_words to words here.store) (told event go) (told event go') (told_goes event tt go go' goes) here s
 
   private_goes : (k : ℕ) (to from : Place) (n : ℕ) (go go' : Rest) → Goes go go' → Goes (private_copy k to from n go) (private_copy k to from n go')
   private_goes k to from n go go' goes here s =
       let words = words_at here.store from n in
-      told_goes (copies k (shown from) keep n) tt _ _ (seal_goes k (of_copy class.Private to from words) _ _ (brought_goes k to words go go' goes)) here s
+      let r = of_copy class.Private to from words in
+      told_goes (copies k (shown from) keep n) tt (seal k r (brought k to words go)) (seal k r (brought k to words go'))
+      (seal_goes k r (brought k to words go) (brought k to words go') (brought_goes k to words go go' goes)) here s
 
   single_goes : (k : ℕ) (to from : Place) (n : ℕ) (go go' : Rest) → Goes go go' → Goes (single_copy k to from n go) (single_copy k to from n go')
   single_goes k to from n go go' goes =
-      moved_goes k to from n _ _ (λ here s. seal_goes k (of_copy class.Single to from (words_at here.store to n)) go go' goes here s)
+      moved_goes k to from n (single_sealed k to from n go) (single_sealed k to from n go') (λ here s. seal_goes k (of_copy class.Single to from (words_at here.store to n)) go go' goes here s)
 
   class_goes : (c : DmaClass) (k : ℕ) (to from : Place) (n : ℕ) (go go' : Rest) → Goes go go' → Goes (copy_by_class c k to from n go) (copy_by_class c k to from n go')
   class_goes class.Single k to from n go go' goes = single_goes k to from n go go' goes
@@ -202,8 +221,10 @@ module _ (P : Here → Steps → Log → Log → Type 0) (along : GoesAlong P) w
 
   again_goes : (c : DmaClass) (k : ℕ) (to from : Place) (words : List ℕ) (valued : Valued) (go go' : Rest) → Goes go go' → Goes (copy_again c k to from words valued go) (copy_again c k to from words valued go')
   again_goes c k to from words valued go go' goes here s =
-      stored_goes (put_words to words here.store) _ _ (λ after s. along.event (again c k to (length words)) (again_inner c k to (length words))
-      (Some (record { made_with = range to from words; valued = valued })) after s (go after) (go' (with_steps s after)) (goes after s)) here s
+      let followed : Followed = record { made_with = range to from words; valued = valued } in
+      let event = again c k to (length words) in
+      stored_goes (put_words to words here.store) (told_following followed event go) (told_following followed event go')
+      (λ after s. along.event event (again_inner c k to (length words)) (Some followed) after s (go after) (go' (with_steps s after)) (goes after s)) here s
 
   copy_anew_goes : (setting : Setting) (k : ℕ) (to from : Place) (n : ℕ) (go go' : Rest) → Goes go go' → Goes (copy_anew setting k to from n go) (copy_anew setting k to from n go')
   copy_anew_goes setting k to from n go go' goes here s = from_spent (moving_steps n) here s _ _ (class_goes (class_at setting to from) k to from n go go' goes (spent (moving_steps n) here) _)

@@ -1,5 +1,5 @@
 -- Laws of attempts and boots, each an instance of the one induction.
-use Rattle.std.proofs.Common.{◌≡◌, ℕ, zero, suc, ◌+◌, ◌≤◌, ⊤, List, [], ◌∷◌, length, map, take, Option, Some, None, refl, sym, ap, subst, subst₂, ◌∙◌, le-add_right, le_refl, le_trans, arith, take-take, not-suc-le-zero, le_of_suc-le-suc}
+use Rattle.std.proofs.Common.{◌≡◌, ℕ, zero, suc, ◌+◌, ◌≤◌, List, [], ◌∷◌, take, Option, Some, None, refl, sym, ap, subst, subst₂, ◌∙◌, le-add_right, le_refl, le_trans, arith, take-take, not-suc-le-zero, le_of_suc-le-suc}
 use Rattle.task_ast.specs.declared.core_form.CoreTask.{CoreTask}
 use Rattle.walk_run.specs.declared.trap.Trap.{Trap}
 use Rattle.devices.specs.Journal.{JournalEvent, begins, looks, keeps, drops, issues, seals, copies, commits, traps}

@@ -26,10 +26,12 @@ block_sealed k t mode.Force go = drop_one k (seal k (of_block t) go)
 abbrev pub block_end : (site t : ℕ) → (outside inside : Mode) → Rest → Rest
 block_end k t outside inside go here = block_sealed k t inside (λ after. go (with_mode outside after)) (spent block_steps here)
 
--- a block looks at the clock, and its body goes in the mode that its record then gives
-abbrev pub block_log : Setting → (site : ℕ) → (body : Rest → Rest) → Rest → Rest
-block_log setting k body go here =
-    look k (λ t before.
+-- behind the look a block's record gives the mode for its body, and at the body's end the block is sealed
+abbrev pub block_inside : Setting → (site : ℕ) → (body : Rest → Rest) → Rest → (t : ℕ) → Rest
+block_inside setting k body go t before =
     let inside = entered before.mode (annotation setting k) (stamp_in (before.standing.account.records k)) t in
-    body (block_end k t before.mode inside go) (with_mode inside before))
-    (spent block_steps here)
+    body (block_end k t before.mode inside go) (with_mode inside before)
+
+-- a block looks at the clock, and then its body goes
+abbrev pub block_log : Setting → (site : ℕ) → (body : Rest → Rest) → Rest → Rest
+block_log setting k body go here = look k (block_inside setting k body go) (spent block_steps here)

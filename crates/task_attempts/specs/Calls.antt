@@ -7,6 +7,7 @@ use Rattle.task_ast.specs.declared.core_form.CoreTarget.{CoreTarget}
 use Rattle.task_ast.specs.declared.core_form.Site.{Site}
 use Rattle.task_ast.specs.declared.core_form.Site.TheVariants as site
 use Rattle.ease_base.specs.declared.place.Peripheral.{Peripheral}
+use Rattle.walk_run.specs.declared.place.Place.{Place}
 use Rattle.io_annot.specs.declared.choice.Choice.{Choice}
 use Rattle.io_annot.specs.declared.choice.Choice.TheVariants.{Keep, Issue}
 use Rattle.io_annot.specs.Choice.{choice}
@@ -74,9 +75,13 @@ by_choice setting k p made_with args t go Issue = issue_anew setting k p args t 
 abbrev pub by_record : Setting → (site p : ℕ) → (args : List ℕ) → (t : ℕ) → (ℕ → Rest) → Option Record → Rest
 by_record setting k p args t go r here = by_choice setting k p (issued_with r) args t go (choice here.mode (annotation setting k) (kept_in r) t) here
 
--- its target is found and its arguments are valued; it looks at the clock; it keeps or issues; the word goes to the target
+-- behind the look it goes by its record, and the word that it takes goes to the target
+abbrev pub call_inside : Setting → (site p : ℕ) → Option Place → (args : List ℕ) → Rest → (t : ℕ) → Rest
+call_inside setting k p at args go t here =
+    by_record setting k p args t (λ word after. go (put_into at word after)) (here.standing.account.records k) here
+
+-- a call's target is found and its arguments are valued; then it looks at the clock
 abbrev pub call_log : Setting → (site : ℕ) → Option CoreTarget → (peripheral : ℕ) → List CoreExpr → Rest → Rest
 call_log setting k onto peripheral args go here =
-    reading_place onto (λ at. values args (λ words. look k (λ t inside.
-    by_record setting k (number_of setting peripheral) words t (λ word after. go (put_into at word after)) (inside.standing.account.records k) inside)))
+    reading_place onto (λ at. values args (λ words. look k (call_inside setting k (number_of setting peripheral) at words go)))
     (spent (call_steps setting.task k) here)

@@ -58,9 +58,13 @@ moved k to from n go here = told (copies k (shown from) (shown to) n) go (with_s
 abbrev pub brought : (site : ℕ) → (to : Place) → List ℕ → Rest → Rest
 brought k to words go here = told (copies k keep (shown to) (length words)) go (with_store (put_words to words here.store) here)
 
--- a copy of class Single is done, and the words that now stand at its destination are kept
+-- the words that now stand at the destination are kept
+abbrev pub single_sealed : (site : ℕ) → (to from : Place) → (n : ℕ) → Rest → Rest
+single_sealed k to from n go here = seal k (of_copy class.Single to from (words_at here.store to n)) go here
+
+-- a copy of class Single is done and then sealed
 abbrev pub single_copy : (site : ℕ) → (to from : Place) → (n : ℕ) → Rest → Rest
-single_copy k to from n go = moved k to from n (λ here. seal k (of_copy class.Single to from (words_at here.store to n)) go here)
+single_copy k to from n go = moved k to from n (single_sealed k to from n go)
 
 -- one of class Private: the source's words are kept, and then go to the destination
 abbrev pub private_copy : (site : ℕ) → (to from : Place) → (n : ℕ) → Rest → Rest

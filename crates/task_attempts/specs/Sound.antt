@@ -59,9 +59,9 @@ end_code (Trapped why) = Some (code_of why)
 end_code NoReading = None
 
 -- a trap is that of the unbroken run which besides is fed the readings of the attempt that traps
-abbrev pub TrapIsWalked : Core → (events : List (List JournalEvent)) → (commits : ℕ) → Type 0
-TrapIsWalked c events commits =
-    AllByRecursion (λ code. end_code (walk_of c (retained c events ++ trapped c events) (commits + 1)).end ≡ Some code) (flat_map (λ boot. flat_map code_in boot) events)
+abbrev pub TrapIsWalked : Core → (events : List (List JournalEvent)) → (ended : ℕ) → Type 0
+TrapIsWalked c events ended =
+    AllByRecursion (λ code. end_code (walk_of c (retained c events ++ trapped c events) (ended + 1)).end ≡ Some code) (flat_map (λ boot. flat_map code_in boot) events)
 
 -- ---- each event comes in time
 
