@@ -1,7 +1,9 @@
 -- Laws of attempts and boots, each an instance of the one induction.
 use Rattle.std.proofs.Common.{◌≡◌, ℕ, zero, suc, ◌+◌, ◌≤◌, List, [], ◌∷◌, take, Option, Some, None, refl, sym, ap, subst, subst₂, ◌∙◌, le-add_right, le_refl, le_trans, arith, take-take, not-suc-le-zero, le_of_suc-le-suc}
 use Rattle.task_ast.specs.declared.core_form.CoreTask.{CoreTask}
+use Rattle.task_ast.specs.declared.core_form.Core.{Core}
 use Rattle.walk_run.specs.declared.trap.Trap.{Trap}
+use Rattle.devices.specs.declared.world.World.{World}
 use Rattle.devices.specs.Journal.{JournalEvent, begins, looks, keeps, drops, issues, seals, copies, commits, traps}
 use Rattle.word_isa.specs.declared.parts.Scheme.{Scheme}
 use Rattle.task_attempts.specs.State.{Steps, Rules, Setting, Standing, Here, Logged, Log, Rest, Followed}
@@ -9,7 +11,7 @@ use Rattle.task_attempts.specs.Changes.{with_steps}
 use Rattle.task_attempts.specs.Costs.{beginning_steps, commit_steps}
 use Rattle.task_attempts.specs.Told.{logged, trap}
 use Rattle.task_attempts.specs.Attempts.{body_log, exit_log, commit, committed_by, begun_by, attempt_log}
-use Rattle.task_attempts.specs.Boots.{task_of, attempt_if_there, attempts_log, boot_steps, booted, boot_log}
+use Rattle.task_attempts.specs.Boots.{rules_of, task_of, attempt_if_there, attempts_log, boot_steps, booted, boot_log}
 use Rattle.task_attempts.specs.Along.{IsInner, GoesAlong, GoesOver, setting_of, steps_begun, steps_committed}
 use Rattle.task_attempts.specs.Laws.{EndsWith, Rises, IsOver, IsWhole, IsCleared, LeaveNoRecord, Stays, AllStay, AreAlike, IsLast, TrapsAreLast}
 use Rattle.task_attempts.proofs.AlongLaws.{body_goes, exit_goes}
@@ -63,9 +65,9 @@ rises_over scheme rules = record {
 }
 
 -- in a boot
-pub boot_rises : (scheme : Scheme) (rules : Rules) (n : ℕ) (s : Standing) → Rises scheme (boot_steps rules.core (task_of rules.core s.next) s.account.furthest scheme) (boot_log rules n s)
+pub boot_rises : (c : Core) (world : World) (scheme : Scheme) (n : ℕ) (s : Standing) → Rises scheme (boot_steps c (task_of c s.next) s.account.furthest scheme) (boot_log (rules_of c world) n s)
 unfolding boot_log
-boot_rises scheme rules n s = attempts_go _ rules (rises_over scheme rules) n (booted rules s) (booted rules s).steps
+boot_rises c world scheme n s = let b = booted (rules_of c world) s in attempts_go _ (rules_of c world) (rises_over scheme (rules_of c world)) n b b.steps
 
 -- ---- an attempt ends by a commit or a trap
 
@@ -84,9 +86,11 @@ whole_after : (l : Logged) (log : Log) → EndsWith (λ l. IsOver l.event) log �
 whole_after l [] ends = absurd ends
 whole_after l (m ∷ log) ends = record { ends = ends; events = omega arith }
 
-pub attempt_is_whole : (setting : Setting) (here : Here) → IsWhole (attempt_log setting (λ end. []) here)
-attempt_is_whole setting here =
-    whole_after _ _ (inside_goes _ ends_along setting (commit (λ end. [])) (commit (λ end. [])) (λ t at s. tt) (begun_by setting here) (begun_by setting here).steps)
+pub attempt_is_whole : (rules : Rules) (t : CoreTask) (here : Here) → IsWhole (attempt_log (setting_of rules t) (λ behind. []) here)
+attempt_is_whole rules t here =
+    let setting = setting_of rules t in
+    let end : Rest = λ behind. [] in
+    whole_after _ _ (inside_goes _ ends_along setting (commit end) (commit end) (λ next at s. tt) (begun_by setting here) (begun_by setting here).steps)
 
 -- ---- a commit leaves no record
 

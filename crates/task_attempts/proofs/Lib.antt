@@ -4,5 +4,7 @@ mod BlockRows
 mod CallRows
 mod CopyRows
 mod CostRows
+mod CutLaws
 mod Programs
+mod RetainedLaws
 mod Sense

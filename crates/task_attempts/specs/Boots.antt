@@ -3,11 +3,16 @@ use Rattle.std.specs.Prelude.{ℕ, zero, suc, ◌+◌, List, [], ◌∷◌, map,
 use Rattle.task_ast.specs.declared.core_form.CoreTask.{CoreTask}
 use Rattle.task_ast.specs.declared.core_form.Core.{Core}
 use Rattle.io_annot.specs.declared.choice.Mode.TheVariants.{Own}
+use Rattle.devices.specs.declared.world.World.{World}
 use Rattle.devices.specs.Journal.{JournalEvent}
 use Rattle.word_isa.specs.declared.parts.Scheme.{Scheme}
 use Rattle.task_attempts.specs.State.{Steps, Rules, Standing, Here, Log, Rest, start}
 use Rattle.task_attempts.specs.Costs.{restoring_steps}
 use Rattle.task_attempts.specs.Attempts.{attempt_log}
+
+-- what runs of a program in a world go by
+abbrev pub rules_of : Core → World → Rules
+rules_of c world = record { core = c; world = world }
 
 -- the task of a number from 1; none has the number 0
 abbrev pub task_of : Core → (number : ℕ) → Option CoreTask
