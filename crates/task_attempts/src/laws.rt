@@ -13,7 +13,6 @@ use devices::World;
 use task_ast::Core;
 
 /// An attempt has at least two events. It ends by a commit or a trap.
-#[tactic(auto, using(crate::proofs::AttemptLaws::attempt_is_whole))]
 pub fn an_attempt_ends_by_a_commit_or_a_trap(c: &Core, world: &World)
     ensures { (t : CoreTask) (here : Here) → IsWhole (attempt_log (setting_of (rules_of c.now world.now) t) (λ behind. []) here) }
 {}
