@@ -5,6 +5,7 @@ mod CallRows
 mod CopyRows
 mod CostRows
 mod CutLaws
+mod JournalRow
 mod Programs
 mod RetainedLaws
 mod Sense

@@ -1,5 +1,5 @@
 -- An I/O site in an attempt: it keeps or issues (docs/ATTEMPTS.md, "Calls").
-use Rattle.std.specs.Prelude.{ℕ, ◌+◌, ◌-◌, List, [], Option, Some, None, slice_get}
+use Rattle.std.specs.Prelude.{ℕ, zero, suc, ◌+◌, List, [], Option, Some, None, slice_get}
 use Rattle.task_ast.specs.declared.tree.Ann.{Ann}
 use Rattle.task_ast.specs.declared.tree.Ann.TheVariants.{Always}
 use Rattle.task_ast.specs.declared.core_form.CoreExpr.{CoreExpr}
@@ -27,9 +27,14 @@ annotation_of (Some (site.Block ann)) = ann
 annotation_of (Some (site.Copy greatest)) = Always
 annotation_of None = Always
 
+-- the site of a number from 1
+abbrev pub site_at : List Site → (number : ℕ) → Option Site
+site_at sites zero = None
+site_at sites (suc n) = slice_get sites n
+
 -- the annotation at a site
 abbrev pub annotation : Setting → (site : ℕ) → Ann
-annotation setting k = annotation_of (slice_get setting.task.sites (k - 1))
+annotation setting k = annotation_of (site_at setting.task.sites k)
 
 -- the number of a peripheral that is there
 abbrev pub number_or_none : Option Peripheral → ℕ

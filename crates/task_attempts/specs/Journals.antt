@@ -1,11 +1,12 @@
 -- What a journal says of its boots: their events, the looks, and the readings that are retained (docs/ATTEMPTS.md,
 -- "Reading a journal").
-use Rattle.std.specs.Prelude.{ℕ, zero, suc, List, [], ◌∷◌, ◌++◌, length, map, flat_map, Option, Some, None, slice_get}
+use Rattle.std.specs.Prelude.{ℕ, List, [], ◌∷◌, ◌++◌, length, map, flat_map, Option, Some, None}
 use Rattle.task_ast.specs.declared.core_form.Site.{Site}
 use Rattle.task_ast.specs.declared.core_form.Site.TheVariants as site
 use Rattle.task_ast.specs.declared.core_form.CoreTask.{CoreTask}
 use Rattle.task_ast.specs.declared.core_form.Core.{Core}
 use Rattle.devices.specs.Journal.{JournalEvent, begins, looks, keeps, issues, commits, traps, Boot, Journal}
+use Rattle.task_attempts.specs.Calls.{site_at}
 use Rattle.task_attempts.specs.Boots.{task_of}
 
 -- the events of a boot without their steps, and those of each boot
@@ -29,11 +30,6 @@ abbrev pub looks_of : Journal → List ℕ
 looks_of j = flat_map (λ b. flat_map look_time (events_of b)) j.boots
 
 -- ---- readings
-
--- the site of a number from 1
-abbrev pub site_at : List Site → (number : ℕ) → Option Site
-site_at sites zero = None
-site_at sites (suc n) = slice_get sites n
 
 -- a value at an I/O site is a reading
 abbrev pub if_reading : Option Site → (value : ℕ) → List ℕ

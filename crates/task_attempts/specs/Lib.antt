@@ -8,6 +8,7 @@ pub mod Copies
 pub mod Costs
 pub mod Journals
 pub mod Laws
+pub mod LogRows
 pub mod Sound
 pub mod State
 pub mod Told
