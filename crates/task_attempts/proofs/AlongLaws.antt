@@ -28,7 +28,7 @@ use Rattle.devices.specs.Journal.{JournalEvent, keep, looks, keeps, drops, issue
 use Rattle.task_attempts.specs.State.{Setting, Valued, arguments, range, Record, of_reading, of_block, of_copy, Followed, Here, Log, Rest, Steps}
 use Rattle.task_attempts.specs.Changes.{with_store, with_mode, with_steps, spent, spent_by, with_record, with_looks, with_issue, with_region}
 use Rattle.task_attempts.specs.Costs.{call_steps, block_steps, copy_steps, moving_steps}
-use Rattle.task_attempts.specs.Told.{logged, told, told_following, trap, unless_trap, drop_one, drop_all, seal, look}
+use Rattle.task_attempts.specs.Told.{told, told_following, unless_trap, drop_one, drop_all, seal, look}
 use Rattle.task_attempts.specs.Values.{value, values, reading_place, put_into, copy_end, tested, branch, from_ran, plain_log}
 use Rattle.task_attempts.specs.Calls.{annotation, number_of, issue, issue_anew, kept_in, issued_with, by_choice, by_record, call_inside, call_log}
 use Rattle.task_attempts.specs.Blocks.{stamp_in, block_sealed, block_end, block_inside, block_log}

@@ -1,14 +1,13 @@
 -- Laws of attempts and boots, each an instance of the one induction.
-use Rattle.std.proofs.Common.{◌≡◌, ℕ, zero, suc, ◌+◌, ◌≤◌, List, [], ◌∷◌, take, Option, Some, None, refl, sym, ap, subst, subst₂, ◌∙◌, le-add_right, le_refl, le_trans, arith, take-take, not-suc-le-zero, le_of_suc-le-suc}
+use Rattle.std.proofs.Common.{◌≡◌, ℕ, zero, suc, ◌≤◌, [], ◌∷◌, take, Option, Some, None, refl, sym, ap, subst, subst₂, ◌∙◌, le-add_right, le_refl, le_trans, arith, take-take, not-suc-le-zero, le_of_suc-le-suc}
 use Rattle.task_ast.specs.declared.core_form.CoreTask.{CoreTask}
 use Rattle.task_ast.specs.declared.core_form.Core.{Core}
-use Rattle.walk_run.specs.declared.trap.Trap.{Trap}
 use Rattle.devices.specs.declared.world.World.{World}
 use Rattle.devices.specs.Journal.{JournalEvent, begins, looks, keeps, drops, issues, seals, copies, commits, traps}
 use Rattle.word_isa.specs.declared.parts.Scheme.{Scheme}
 use Rattle.task_attempts.specs.State.{Steps, Rules, Setting, Standing, Here, Logged, Log, Rest, Followed}
 use Rattle.task_attempts.specs.Changes.{with_steps}
-use Rattle.task_attempts.specs.Costs.{beginning_steps, commit_steps}
+use Rattle.task_attempts.specs.Costs.{commit_steps}
 use Rattle.task_attempts.specs.Told.{logged, trap}
 use Rattle.task_attempts.specs.Attempts.{body_log, exit_log, commit, committed_by, begun_by, attempt_log}
 use Rattle.task_attempts.specs.Boots.{rules_of, task_of, attempt_if_there, attempts_log, boot_steps, booted, boot_log}
@@ -220,8 +219,8 @@ alike_attempts n rules (Some t) go go' alike here =
     alike_fewer (suc n) (suc (suc n)) _ _ (omega arith) (alike_after (suc n) _ _ _
     (inside_goes _ (alike_along (suc n)) (setting_of rules t) (commit go) (commit go')
     (λ next at s same. alike_event n (commits next) None (committed_by next at) (steps_committed s) (go (committed_by next at)) (go' (with_steps (steps_committed s) (committed_by next at)))
-      (λ is. subst (λ steps. AreAlike n (go (committed_by next at)) (go' (with_steps steps (committed_by next at)))) (sym is) (alike (committed_by next at)))
-      (λ i. steps_committed (same i)))
+    (λ is. subst (λ steps. AreAlike n (go (committed_by next at)) (go' (with_steps steps (committed_by next at)))) (sym is) (alike (committed_by next at)))
+    (λ i. steps_committed (same i)))
     (begun_by (setting_of rules t) here) (begun_by (setting_of rules t) here).steps refl))
 
 -- so many attempts, or more, have the same so many first events

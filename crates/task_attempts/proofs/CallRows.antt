@@ -1,6 +1,6 @@
 -- What programs with calls show over failures, computed.
-use Rattle.std.proofs.Common.{◌≡◌, ℕ, List, [], ◌∷◌, ◌++◌, map, refl}
-use Rattle.task_ast.specs.declared.tree.Ann.TheVariants.{Single, Timely, Always}
+use Rattle.std.proofs.Common.{◌≡◌, ℕ, List, [], ◌∷◌, ◌++◌, refl}
+use Rattle.task_ast.specs.declared.tree.Ann.TheVariants.{Timely, Always}
 use Rattle.task_ast.specs.declared.core_form.CoreExpr.TheBlock.{hidden-the_row-CoreExpr-0, shape-the_row-CoreExpr-0}
 use Rattle.devices.specs.Reading.{reading, values_in}
 use Rattle.devices.specs.Journal.{JournalEvent, begins, looks, keeps, drops, issues, seals, commits}

@@ -1,10 +1,10 @@
 -- By how many steps the events of programs must have come, added up by hand and computed.
-use Rattle.std.proofs.Common.{◌≡◌, [], ◌∷◌, ◌++◌, refl}
+use Rattle.std.proofs.Common.{◌≡◌, [], ◌∷◌, refl}
 use Rattle.task_ast.specs.declared.core_form.CoreExpr.TheBlock.{hidden-the_row-CoreExpr-0, shape-the_row-CoreExpr-0}
 use Rattle.task_ast.specs.declared.core_form.CoreStmt.TheBlock.{hidden-the_row-CoreStmt-0, shape-the_row-CoreStmt-0}
 use Rattle.word_isa.specs.declared.parts.Scheme.TheVariants.{Undo, Bank}
 use Rattle.devices.specs.Reading.{reading, values_in}
-use Rattle.devices.specs.Journal.{cell, begins, looks, drops, issues, seals, copies, commits}
+use Rattle.devices.specs.Journal.{cell, begins, looks, drops, issues, seals, copies}
 use Rattle.task_attempts.specs.State.{Rules}
 use Rattle.task_attempts.specs.Boots.{boot_log, boots_from, expect, costs_from, costs}
 use Rattle.task_attempts.proofs.Programs as programs

@@ -1,5 +1,5 @@
 -- A cut right behind a commit changes no event: what comes behind a commit is what a boot does from there.
-use Rattle.std.proofs.Common.{◌≡◌, ℕ, zero, suc, ◌+◌, ◌≤◌, List, [], ◌∷◌, ◌++◌, map, length, take, drop, Option, Some, None, refl, sym, ap, subst, ◌∙◌, le_refl, arith}
+use Rattle.std.proofs.Common.{◌≡◌, ℕ, zero, suc, ◌+◌, ◌≤◌, List, [], ◌∷◌, ◌++◌, map, take, drop, Option, Some, None, refl, sym, ap, subst, ◌∙◌, le_refl, arith}
 use Rattle.std.proofs.lemmas.List.{take-map, map-append}
 use Rattle.std.proofs.Math.Seq.{take-add}
 use Rattle.task_ast.specs.declared.core_form.CoreTask.{CoreTask}
@@ -7,12 +7,11 @@ use Rattle.io_annot.specs.declared.choice.Mode.{Mode}
 use Rattle.walk_run.specs.Store.{Store}
 use Rattle.devices.specs.Journal.{JournalEvent, begins, looks, keeps, drops, issues, seals, copies, commits, traps}
 use Rattle.task_attempts.specs.State.{Steps, Rules, Standing, Here, Logged, Log, Rest}
-use Rattle.task_attempts.specs.Changes.{with_steps}
-use Rattle.task_attempts.specs.Told.{logged, trap}
-use Rattle.task_attempts.specs.Attempts.{commit, committed_by, begun_by, attempt_log}
+use Rattle.task_attempts.specs.Told.{logged}
+use Rattle.task_attempts.specs.Attempts.{commit, committed_by, begun_by}
 use Rattle.task_attempts.specs.Boots.{task_of, attempt_if_there, attempts_log, booted, boot_log, after, cut_boot, left_by, boots_from, events_in}
-use Rattle.task_attempts.specs.Along.{IsInner, GoesAlong, GoesOver, setting_of, steps_begun}
-use Rattle.task_attempts.specs.Laws.{EndsWith, Seen, seen, seen_in, IsCommit, EndsByCommit, first_two_as_one}
+use Rattle.task_attempts.specs.Along.{IsInner, GoesAlong, GoesOver, setting_of}
+use Rattle.task_attempts.specs.Laws.{Seen, seen, seen_in, IsCommit, EndsByCommit, first_two_as_one}
 use Rattle.task_attempts.proofs.AttemptLaws.{inside_goes, attempt_goes, attempts_go, more_attempts, longer_boot}
 
 -- ---- what is seen doesn't ask how many steps were taken
@@ -132,7 +131,7 @@ module _ (rules : Rules) (d : ℕ) where
       let go = attempts_log rules n in
       on_after (suc n) _ _ (λ is. is) (inside_goes _ (on_along (suc n)) (setting_of rules t) (commit go) (commit go)
       (λ next at s. let behind = committed_by next at in
-        commit_on n (logged (commits next) None behind) (go behind) (seen_as_boot rules d n behind) (no_boot rules d n behind) (on behind))
+      commit_on n (logged (commits next) None behind) (go behind) (seen_as_boot rules d n behind) (no_boot rules d n behind) (on behind))
       (begun_by (setting_of rules t) here) (begun_by (setting_of rules t) here).steps) s c le ends
 
   pub attempts_on : (n : ℕ) (here : Here) → GoesOn n (attempts_log rules n here)

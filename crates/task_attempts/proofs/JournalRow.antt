@@ -9,8 +9,8 @@ use Rattle.devices.specs.Reading.{reading, values_in}
 use Rattle.devices.specs.Journal.{Journal, begins, looks, drops, issues, seals, commits}
 use Rattle.task_attempts.specs.State.{Rules}
 use Rattle.task_attempts.specs.Boots.{boot_log, boots_from, costs_from}
-use Rattle.task_attempts.specs.Sound.{IsLegal, AreWalked, TrapIsWalked, IsInTime, ends_from, AllSealed, AllEndWell, KeepsRules}
-use Rattle.task_attempts.specs.Journals.{all_events, cuts_of, looks_of, retained}
+use Rattle.task_attempts.specs.Sound.{IsLegal, AreWalked, IsInTime, ends_from, AllSealed, AllEndWell, KeepsRules}
+use Rattle.task_attempts.specs.Journals.{all_events}
 use Rattle.task_attempts.proofs.Programs.{sending}
 use denote.Hole.Carrier.{hidden}
 
@@ -28,9 +28,9 @@ rules = record {
 journal : Journal
 journal = record {
   boots =
-    record { begun_at = 0; events = (20, begins 1) ∷ (41, looks 1 40) ∷ (50, drops 1) ∷ (60, issues 1 0 (7 ∷ []) 1) ∷ [] }
-    ∷ record { begun_at = 60; events = (80, begins 1) ∷ (101, looks 1 200) ∷ (110, drops 1) ∷ (115, issues 1 0 (7 ∷ []) 2) ∷ (118, seals 1) ∷ (130, commits 0) ∷ [] }
-    ∷ [];
+      record { begun_at = 0; events = (20, begins 1) ∷ (41, looks 1 40) ∷ (50, drops 1) ∷ (60, issues 1 0 (7 ∷ []) 1) ∷ [] }
+      ∷ record { begun_at = 60; events = (80, begins 1) ∷ (101, looks 1 200) ∷ (110, drops 1) ∷ (115, issues 1 0 (7 ∷ []) 2) ∷ (118, seals 1) ∷ (130, commits 0) ∷ [] }
+      ∷ [];
   steps = 135;
   ending = Halted;
 }
@@ -57,9 +57,10 @@ walked = record { nexts = refl; walked = walked_by }
 -- the second boot's events come by 60 and 180, 312 .. 312, 432 more; the first boot ends before it must have come further
 in_time : IsInTime rules Undo journal
 unfolding hidden-the_row-CoreExpr-0 shape-the_row-CoreExpr-0 hidden boot_log costs_from values_in reading sending rules journal
-in_time =
-    ((omega arith, (omega arith, (omega arith, (omega arith, omega arith)))),
-    ((omega arith, (omega arith, (omega arith, (omega arith, (omega arith, (omega arith, tt)))))), tt))
+in_time = (
+  (omega arith, (omega arith, (omega arith, (omega arith, omega arith)))),
+  ((omega arith, (omega arith, (omega arith, (omega arith, (omega arith, (omega arith, tt)))))), tt),
+)
 
 -- the first boot ends 0 steps behind its issue, and in the second the seal comes 3 steps behind it
 sealed : AllSealed sending journal.boots (ends_from journal.boots journal.steps)

@@ -1,13 +1,12 @@
 -- Small programs in their checked form, for examples.
 use Rattle.std.specs.Prelude.{ℕ, List, [], ◌∷◌, Option, Some, None, codes, replicate}
-use Rattle.task_ast.specs.declared.tree.Kind.{Kind}
 use Rattle.task_ast.specs.declared.tree.Kind.TheVariants.{Nv, Const, Vol}
 use Rattle.task_ast.specs.declared.tree.Ann.{Ann}
 use Rattle.task_ast.specs.declared.tree.Ann.TheVariants.{Single, Timely, Always}
-use Rattle.task_ast.specs.declared.tree.Op2.TheVariants.{Add, Mul, Div, Eq, Lt}
+use Rattle.task_ast.specs.declared.tree.Op2.TheVariants.{Add, Eq, Lt}
 use Rattle.task_ast.specs.declared.core_form.Array.{Array}
 use Rattle.task_ast.specs.declared.core_form.CoreExpr.{CoreExpr}
-use Rattle.task_ast.specs.declared.core_form.CoreExpr.TheVariants.{Number, Cell, Through, Two}
+use Rattle.task_ast.specs.declared.core_form.CoreExpr.TheVariants.{Number, Cell, Two}
 use Rattle.task_ast.specs.declared.core_form.CoreTarget.{CoreTarget}
 use Rattle.task_ast.specs.declared.core_form.CoreTarget.TheVariants as target
 use Rattle.task_ast.specs.declared.core_form.CoreEnd.{CoreEnd}
@@ -20,7 +19,6 @@ use Rattle.task_ast.specs.declared.core_form.Site.{Site}
 use Rattle.task_ast.specs.declared.core_form.Site.TheVariants as site
 use Rattle.task_ast.specs.declared.core_form.CoreTask.{CoreTask}
 use Rattle.task_ast.specs.declared.core_form.Core.{Core}
-use Rattle.devices.specs.declared.world.Feed.{Feed}
 use Rattle.task_attempts.specs.State.{Rules}
 
 -- ---- parts
@@ -119,11 +117,11 @@ shifting to from = one_task (nv (1 ∷ 2 ∷ 3 ∷ 4 ∷ 5 ∷ 6 ∷ []) ∷ [])
 -- task t { if (n == 0) { p = &b[0]; } else { p = &c[0]; } DMA(p, a, 2); n = n + 1; if (n < 2) NEXT(t); else STOP; }
 unfoldable pub pointing : Core
 pointing = record (program
-  (nv zero_word ∷ nv (5 ∷ 6 ∷ []) ∷ nv (0 ∷ 0 ∷ []) ∷ vol (0 ∷ 0 ∷ []) ∷ [])
-  (task (If (Two Eq (read 0) (Number 0)) (Point 0 3 (Number 0) ∷ []) (Point 0 2 (Number 0) ∷ [])
+    (nv zero_word ∷ nv (5 ∷ 6 ∷ []) ∷ nv (0 ∷ 0 ∷ []) ∷ vol (0 ∷ 0 ∷ []) ∷ [])
+    (task (If (Two Eq (read 0) (Number 0)) (Point 0 3 (Number 0) ∷ []) (Point 0 2 (Number 0) ∷ [])
     ∷ Copy 1 (end.Pointer 0) (at 1 0) (Number 2) ∷ set 0 (Two Add (read 0) (Number 1)) ∷ [])
     (Choose (Two Lt (read 0) (Number 2)) (Next 1) Stop) (site.Copy 2 ∷ []) ∷ []))
-  { pointers = codes "p" ∷ [] }
+    { pointers = codes "p" ∷ [] }
 
 -- nv word a[2048]; word b[2048]; task t { DMA(a, b, WORDS); STOP; }
 unfoldable pub filling : (words : ℕ) → Core

@@ -1,12 +1,12 @@
 -- Without a failure all readings are retained.
-use Rattle.std.proofs.Common.{◌≡◌, ℕ, zero, suc, List, [], ◌∷◌, ◌++◌, map, take, refl, sym, ap, subst, ◌∙◌, append_assoc, append-nil}
+use Rattle.std.proofs.Common.{◌≡◌, ℕ, zero, suc, List, [], ◌∷◌, ◌++◌, take, refl, sym, ap, subst, ◌∙◌, append_assoc, append-nil}
 use Rattle.task_ast.specs.declared.core_form.Core.{Core}
 use Rattle.devices.specs.declared.world.World.{World}
 use Rattle.devices.specs.Journal.{JournalEvent, begins, looks, keeps, drops, issues, seals, copies, commits, traps}
 use Rattle.task_attempts.specs.State.{Logged, Log, start}
 use Rattle.task_attempts.specs.Boots.{rules_of, boot_log, cut_boot, boots_from, events_in, expect}
 use Rattle.task_attempts.specs.Journals.{Running, idle, run_on, given, reading_at, retained_in, retained, readings_in, readings}
-use Rattle.task_attempts.specs.Laws.{EndsWith, IsCommit, EndsByCommit, IsLast, TrapsAreLast}
+use Rattle.task_attempts.specs.Laws.{IsCommit, EndsByCommit, IsLast, TrapsAreLast}
 use Rattle.task_attempts.proofs.AttemptLaws.{boot_traps_last}
 
 -- all readings of events, behind some that are held

@@ -1,5 +1,5 @@
 -- A program of four tasks that senses, filters, scales and sends, and what its first instances show.
-use Rattle.std.proofs.Common.{◌≡◌, ℕ, ◌+◌, List, [], ◌∷◌, ◌++◌, map, flat_map, take, Some, None, refl}
+use Rattle.std.proofs.Common.{◌≡◌, ℕ, ◌+◌, List, [], ◌∷◌, ◌++◌, map, flat_map, Some, refl}
 use Rattle.task_ast.specs.declared.tree.Ann.TheVariants.{Single, Timely}
 use Rattle.task_ast.specs.declared.tree.Op2.TheVariants.{Add, Mul, Div, Lt}
 use Rattle.task_ast.specs.declared.core_form.CoreExpr.TheVariants.{Number, Cell, Two}
@@ -41,7 +41,7 @@ telemetry =
     program (constant (3 ∷ 1 ∷ []) ∷ nv eight ∷ nv zero_word ∷ nv zero_word ∷ vol zero_word ∷ vol zero_word ∷ vol eight ∷ [])
     (task (flat_map turn turns ++ set 5 (Number 8) ∷ Copy 9 (at 1 0) (at 6 0) (Number 8) ∷ []) (Next 2) (map (λ j. site.Io (Timely 1000)) turns ++ site.Copy 8 ∷ [])
     ∷ task (Copy 1 (at 6 0) (at 1 0) (Number 8) ∷ set 4 (Number 0) ∷ Loop 5 8 (set 4 (Two Add (read 4) (Cell 6 (read 5))) ∷ []) ∷ set 2 (Two Div (read 4) (Number 8)) ∷ [])
-      (Next 3) (site.Copy 8 ∷ [])
+    (Next 3) (site.Copy 8 ∷ [])
     ∷ task (Copy 1 (at 6 0) (at 0 0) (Number 2) ∷ set 2 (Two Div (Two Mul (read 2) (Cell 6 (Number 0))) (Cell 6 (Number 1))) ∷ []) (Next 4) (site.Copy 2 ∷ [])
     ∷ task (Io 1 (onto 4) 1 (read 2 ∷ []) ∷ set 3 (Two Add (read 3) (Number 1)) ∷ []) (Choose (Two Lt (read 3) (Number 3)) (Next 1) Stop) (site.Io Single ∷ []) ∷ [])
 

@@ -1,6 +1,6 @@
 -- How many machine steps the parts of boots and attempts may take (docs/ATTEMPTS.md, "How soon"). What expressions and
 -- statements without sites may take stands in PlainSteps.antt of walk_run.
-use Rattle.std.specs.Prelude.{ℕ, ◌+◌, ◌*◌, min, Bool, true, false, List, length, filter, sum_by, slice_get}
+use Rattle.std.specs.Prelude.{ℕ, ◌+◌, ◌*◌, min, Bool, true, false, length, filter, sum_by, slice_get}
 use Rattle.std.specs.List.{range_with_len}
 use Rattle.task_ast.specs.declared.tree.Kind.{Kind}
 use Rattle.task_ast.specs.declared.tree.Kind.TheVariants.{Nv, Const, Vol}

@@ -1,5 +1,5 @@
 -- What holds of every log, whatever the program.
-use Rattle.std.specs.Prelude.{◌≡◌, ℕ, ◌≤◌, ⊤, List, [], ◌∷◌, ◌++◌, length, map, take, Option, None}
+use Rattle.std.specs.Prelude.{◌≡◌, ℕ, ◌≤◌, ⊤, List, [], ◌∷◌, ◌++◌, length, map, take, None}
 use Rattle.std.specs.List.{AllByRecursion}
 use Rattle.walk_run.specs.Store.{Store}
 use Rattle.devices.specs.Journal.{JournalEvent, commits, traps}

@@ -15,7 +15,7 @@ use Rattle.devices.specs.declared.event.RunEnd.{RunEnd}
 use Rattle.devices.specs.declared.event.RunEnd.TheVariants.{Halted, Power}
 use Rattle.devices.specs.declared.event.RunEnd.TheVariants as run
 use Rattle.devices.specs.Clock.{clock_at}
-use Rattle.devices.specs.Journal.{Place, cell, keep, address, JournalEvent, begins, looks, issues, seals, copies, commits, traps, Boot, Journal}
+use Rattle.devices.specs.Journal.{Place, cell, keep, JournalEvent, looks, issues, seals, copies, commits, traps, Boot, Journal}
 use Rattle.word_isa.specs.declared.parts.Scheme.{Scheme}
 use Rattle.task_attempts.specs.State.{Rules, Log}
 use Rattle.task_attempts.specs.Copies.{memory_or_ram}
