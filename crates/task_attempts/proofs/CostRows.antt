@@ -4,11 +4,11 @@ use Rattle.task_ast.specs.declared.core_form.CoreExpr.TheBlock.{hidden-the_row-C
 use Rattle.task_ast.specs.declared.core_form.CoreStmt.TheBlock.{hidden-the_row-CoreStmt-0, shape-the_row-CoreStmt-0}
 use Rattle.word_isa.specs.declared.parts.Scheme.TheVariants.{Undo, Bank}
 use Rattle.devices.specs.Reading.{reading, values_in}
-use Rattle.devices.specs.Journal.{cell, begins, looks, drops, issues, seals, copies}
+use Rattle.devices.specs.Journal.{cell, begins, looks, drops, issues, seals, copies, commits, traps}
 use Rattle.task_attempts.specs.State.{Rules}
 use Rattle.task_attempts.specs.Boots.{boot_log, boots_from, expect, costs_from, costs}
 use Rattle.task_attempts.proofs.Programs as programs
-use Rattle.task_attempts.proofs.Programs.{mixed, three_regions}
+use Rattle.task_attempts.proofs.Programs.{mixed, three_regions, through}
 use denote.Hole.Carrier.{hidden}
 
 mixed_rules : Rules
@@ -60,3 +60,30 @@ a_boot_restores_what_may_have_been_written : costs (programs.reading [] [] three
     (240 ∷ 412 ∷ []) ∷ (240 ∷ 412 ∷ 412 ∷ []) ∷ (264 ∷ 436 ∷ 436 ∷ 648 ∷ 648 ∷ []) ∷ (300 ∷ 472 ∷ []) ∷ []
 unfolding hidden-the_row-CoreExpr-0 shape-the_row-CoreExpr-0 hidden boot_log costs_from three_regions
 a_boot_restores_what_may_have_been_written = refl
+
+-- An index through a pointer may take 12 more, read or written. Region 0 writes the 3 words of a; there are a volatile word
+-- and a pointer.
+--   boot         64 + 16 + 12 * 3                                          116
+--   beginning    64 + 12 * 2 + 12 * 3                               124    240   begin
+--   p = &a[1]    16, index 12                                        28    268
+--   call 1       96 + 12 that depends, target 12                    120    388   look 1, drop 1, drop 2, issue 1, seal 1
+--   p[1] = ..    16, target 12 + 12, p[0] 24 + 12, v and sum 36     112    500
+--   call 2       96, target v 24 + 12, argument p[1] 24 + 12        168    668   look 2, drop 2, issue 2, seal 2
+--   commit       32                                                  32    700
+-- Where the first reading is 2, p[2] is past the end: the target is valued, the argument isn't, 500 + 96 + 36.
+through_a_pointer : expect (programs.reading (1 ∷ 2 ∷ []) [] through) (11 ∷ []) [] ≡
+    (begins 1 ∷ looks 1 0 ∷ drops 1 ∷ drops 2 ∷ issues 1 0 [] 1 ∷ seals 1 ∷ looks 2 0 ∷ drops 2 ∷ issues 2 0 (9 ∷ []) 2 ∷ seals 2 ∷ commits 0 ∷ []) ∷ []
+unfolding hidden-the_row-CoreExpr-0 shape-the_row-CoreExpr-0 hidden boot_log boots_from values_in reading through
+through_a_pointer = refl
+
+its_steps : costs (programs.reading (1 ∷ 2 ∷ []) [] through) Undo (11 ∷ []) [] ≡ (240 ∷ 388 ∷ 388 ∷ 388 ∷ 388 ∷ 388 ∷ 668 ∷ 668 ∷ 668 ∷ 668 ∷ 700 ∷ []) ∷ []
+unfolding hidden-the_row-CoreExpr-0 shape-the_row-CoreExpr-0 hidden boot_log costs_from values_in reading through
+its_steps = refl
+
+past_the_end : expect (programs.reading (2 ∷ []) [] through) (7 ∷ []) [] ≡ (begins 1 ∷ looks 1 0 ∷ drops 1 ∷ drops 2 ∷ issues 1 0 [] 2 ∷ seals 1 ∷ traps 1 ∷ []) ∷ []
+unfolding hidden-the_row-CoreExpr-0 shape-the_row-CoreExpr-0 hidden boot_log boots_from values_in reading through
+past_the_end = refl
+
+steps_up_to_the_trap : costs (programs.reading (2 ∷ []) [] through) Undo (7 ∷ []) [] ≡ (240 ∷ 388 ∷ 388 ∷ 388 ∷ 388 ∷ 388 ∷ 632 ∷ []) ∷ []
+unfolding hidden-the_row-CoreExpr-0 shape-the_row-CoreExpr-0 hidden boot_log costs_from values_in reading through
+steps_up_to_the_trap = refl

@@ -6,6 +6,7 @@ mod CopyRows
 mod CostRows
 mod CutLaws
 mod JournalRow
+mod PlainLaws
 mod Programs
 mod RetainedLaws
 mod Sense

@@ -6,7 +6,7 @@ use Rattle.task_ast.specs.declared.tree.Ann.TheVariants.{Single, Timely, Always}
 use Rattle.task_ast.specs.declared.tree.Op2.TheVariants.{Add, Eq, Lt}
 use Rattle.task_ast.specs.declared.core_form.Array.{Array}
 use Rattle.task_ast.specs.declared.core_form.CoreExpr.{CoreExpr}
-use Rattle.task_ast.specs.declared.core_form.CoreExpr.TheVariants.{Number, Cell, Two}
+use Rattle.task_ast.specs.declared.core_form.CoreExpr.TheVariants.{Number, Cell, Through, Two}
 use Rattle.task_ast.specs.declared.core_form.CoreTarget.{CoreTarget}
 use Rattle.task_ast.specs.declared.core_form.CoreTarget.TheVariants as target
 use Rattle.task_ast.specs.declared.core_form.CoreEnd.{CoreEnd}
@@ -137,6 +137,17 @@ three_regions =
     one_task (nv zero_word ∷ nv (0 ∷ 0 ∷ []) ∷ nv (0 ∷ 0 ∷ 0 ∷ []) ∷ vol (7 ∷ 8 ∷ 9 ∷ []) ∷ [])
     (Copy 1 (at 0 0) (at 3 0) (Number 1) ∷ Copy 2 (at 1 0) (at 3 0) (Number 2) ∷ Copy 3 (at 2 0) (at 3 0) (Number 3) ∷ [])
     (site.Copy 1 ∷ site.Copy 2 ∷ site.Copy 3 ∷ [])
+
+-- ---- indexes through a pointer
+
+-- nv word a[3] = {7, 8, 9}; word v; word *p;
+-- task t { p = &a[1]; v = IO(temp, SINGLE); p[1] = p[0] + v; p[v] = IO(temp, SINGLE, p[1]); STOP; }
+unfoldable pub through : Core
+through = record (one_task (nv (7 ∷ 8 ∷ 9 ∷ []) ∷ vol zero_word ∷ [])
+    (Point 0 0 (Number 1) ∷ Io 1 (onto 1) 0 [] ∷ Assign (target.Through 0 (Number 1)) (Two Add (Through 0 (Number 0)) (read 1))
+    ∷ Io 2 (Some (target.Through 0 (read 1))) 0 (Through 0 (Number 1) ∷ []) ∷ [])
+    (site.Io Single ∷ site.Io Single ∷ []))
+    { pointers = codes "p" ∷ [] }
 
 -- ---- a call, a block, a copy and a pure loop
 

@@ -1,9 +1,12 @@
 //! What holds of every run over power failures, as the contracts of functions that do nothing.
 ghost use Rattle.std.specs.Prelude.{◌≡◌, ◌+◌, ◌≤◌, ℕ, List, [], ◌∷◌, map, take};
 ghost use Rattle.task_ast.specs.declared.core_form.CoreTask.{CoreTask};
+ghost use Rattle.task_ast.specs.declared.core_form.CoreStmt.{CoreStmt};
+ghost use Rattle.task_ast.specs.CoreSites.{site_numbers};
 ghost use Rattle.word_isa.specs.declared.parts.Scheme.{Scheme};
-ghost use Rattle.task_attempts.specs.State.{Standing, Here, start};
-ghost use Rattle.task_attempts.specs.Attempts.{attempt_log};
+ghost use Rattle.task_attempts.specs.State.{Standing, Here, Rest, start};
+ghost use Rattle.task_attempts.specs.Attempts.{statement_log, attempt_log};
+ghost use Rattle.task_attempts.specs.Values.{plain_log};
 ghost use Rattle.task_attempts.specs.Along.{setting_of};
 ghost use Rattle.task_attempts.specs.Boots.{rules_of, task_of, boot_steps, boot_log, after, cut_boot, left_by, boots_from, events_in, expect};
 ghost use Rattle.task_attempts.specs.Journals.{retained, readings};
@@ -57,4 +60,12 @@ pub fn an_unbroken_run_retains_all_readings(c: &Core, world: &World)
 #[tactic(auto, using(crate::proofs::AttemptLaws::boot_rises))]
 pub fn the_steps_allowed_never_fall(c: &Core, world: &World)
     ensures { (scheme : Scheme) (events : ℕ) (s : Standing) → Rises scheme (boot_steps c.now (task_of c.now s.next) s.account.furthest scheme) (boot_log (rules_of c.now world.now) events s) }
+{}
+
+/// A statement without sites shows no event but a trap. What it does, and the steps that it may take, are told by the
+/// store alone, as in the unbroken run.
+#[tactic(auto, using(crate::proofs::PlainLaws::plain_statement))]
+pub fn a_statement_without_sites_shows_no_event(c: &Core, world: &World)
+    ensures { (t : CoreTask) (s : CoreStmt) → site_numbers s ≡ [] → (go : Rest) (here : Here)
+        → statement_log (setting_of (rules_of c.now world.now) t) s go here ≡ plain_log s go here }
 {}
