@@ -10,3 +10,4 @@ mod PlainLaws
 mod Programs
 mod RetainedLaws
 mod Sense
+mod SoundRows
