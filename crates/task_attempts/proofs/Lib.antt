@@ -1,4 +1,5 @@
 mod AlongLaws
+mod AlongWords
 mod AttemptLaws
 mod BlockRows
 mod CallRows
