@@ -1,6 +1,6 @@
 //! Words that are listed and decoded.
-use crate::{Instr, decode, encode, is_symbol_name, list_word};
 use ease_base::Text;
+use word_isa::{Instr, decode, encode, is_symbol_name, list_word};
 
 #[test]
 fn words_list_their_rows(rt: HostRuntime) {

@@ -2,7 +2,7 @@
 use Rattle.std.proofs.Common.{◌∙◌, ℕ, List, [], ◌∷◌, ◌++◌, ap, subst, sym, refl}
 use Rattle.std.specs.List.{IsDistinct}
 use Rattle.devices.specs.World.{AreDistinct}
-use Rattle.devices.proofs.tests.feeds.Goals as goal
+use Rattle.base_tests.proofs.outside.feeds.Goals as goal
 
 -- feeds of the peripherals 255 and 0
 two_apart : (v w : List ℕ) → AreDistinct (record { number = 255; values = v } ∷ record { number = 0; values = w } ∷ [])

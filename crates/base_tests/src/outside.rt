@@ -2,7 +2,7 @@
 ghost use Rattle.std.specs.Prelude.{IfOk};
 ghost use Rattle.devices.specs.World.{AreDistinct};
 
-use crate::{Clock, Feed, Outside, Readings};
+use devices::{Clock, Feed, Outside, Readings};
 use ease_base::{List, NoMemory, Words};
 use std::alloc::Global;
 use std::test::Fail;

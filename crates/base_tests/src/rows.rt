@@ -1,5 +1,5 @@
 //! Tables with twins, look-ups that find and miss, and the reserved words.
-use crate::{Table, reserved, rows};
+use op_table::{Table, reserved, rows};
 
 #[test]
 fn rows_with_equal_codes_or_names_make_no_table(rt: HostRuntime) {

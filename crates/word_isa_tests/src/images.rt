@@ -1,12 +1,12 @@
 //! Parts of images that pass or fail their tests, and the smallest image.
-use crate::{
+use ease_base::{List, NoMemory, Peripheral, Text, Words};
+use std::alloc::Global;
+use task_ast::Kind;
+use word_isa::{
     Mark, MarkKind, Scheme, Symbol, banks_pass, first_bad_mark, first_bad_peripheral,
     first_bad_symbol, first_bad_word, first_too_large, kind_code, kind_of, unnamed_image,
     version_passes,
 };
-use ease_base::{List, NoMemory, Peripheral, Text, Words};
-use std::alloc::Global;
-use task_ast::Kind;
 
 #[test]
 fn the_first_count_past_its_limit_is_told(rt: HostRuntime) {

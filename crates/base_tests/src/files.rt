@@ -1,5 +1,5 @@
 //! Values from outside: digits, faults by the number of the call, room, limits, and files of the system.
-use crate::{
+use ease_base::{
     Boxed, Cabinet, Failed, FetchError, FileCabinet, MemCabinet, MemSink, StdoutSink, Text, Words,
     digits, put_number, send_all,
 };

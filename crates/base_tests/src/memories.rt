@@ -1,5 +1,5 @@
 //! The edges of the memories, failures, overlapping copies, and copies that leave a memory.
-use crate::{Bus, Engine, Memories};
+use fram_ram::{Bus, Engine, Memories};
 use std::test::Fail;
 
 #[test]
