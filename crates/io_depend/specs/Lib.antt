@@ -1,3 +1,4 @@
 pub mod Depend
 pub mod Flow
+pub mod Rows
 pub mod Sets
