@@ -1,4 +1,5 @@
 pub mod Depend
 pub mod Flow
+pub mod Laws
 pub mod Rows
 pub mod Sets

@@ -19,6 +19,10 @@ pub record Rows : Type 0 where
   pub sites : List ℕ
   pub found : ℕ
 
+-- whether a row has a bit
+abbrev pub has_bit : (row bit : ℕ) → Bool
+has_bit row bit = bit_at row bit == 1
+
 -- the rows of arrays and pointers, kept over a branch
 pub record Branch : Type 0 where
   pub arrays : List ℕ
