@@ -1,5 +1,5 @@
 -- Bit b of the rows is what the pass from the I/O site b + 1 alone gives: what is read, and what is assigned in loops.
-use Rattle.std.proofs.Common.{◌≡◌, ◌∙◌, ℕ, suc, ◌<◌, ◌≤◌, Bool, true, false, ◌||◌, ◌&&◌, ◌==◌, List, [], ◌∷◌, ◌++◌, length, slice_index, bit_or, Option, Some, None, refl, sym, ap, arith}
+use Rattle.std.proofs.Common.{◌≡◌, ◌∙◌, ℕ, ◌<◌, Bool, true, false, ◌||◌, ◌&&◌, ◌==◌, List, [], ◌∷◌, ◌++◌, length, slice_index, bit_or, Option, Some, None, refl, sym, ap, arith}
 use Rattle.std.specs.List.{AllByRecursion, list_any}
 use Rattle.std.specs.Option.{ForSome}
 use Rattle.task_ast.specs.declared.core_form.CoreExpr.{CoreExpr, end_of-CoreExpr, more_of-CoreExpr}
@@ -12,9 +12,9 @@ use Rattle.task_ast.specs.declared.core_form.CoreStmt.{CoreStmt, Row_of-CoreStmt
 use Rattle.task_ast.specs.declared.core_form.CoreStmt.TheVariants as stmt
 use Rattle.task_ast.specs.Pointing.{Pointing, target_arrays, reading_arrays, end_arrays}
 use Rattle.task_ast.specs.WellFormed.{Scope, IsOver, IsCoreExpr, IsTarget, IsEnd, IsCoreStmt, AreCoreStmts}
-use Rattle.io_depend.specs.Sets.{has, joined, has_some}
+use Rattle.io_depend.specs.Sets.{has, has_some}
 use Rattle.io_depend.specs.Flow.{Carrying, one_carries, through_carries, carries, target_carries, reading_carries, end_carries, copy_carries, assignment_reads, reads, row_reads, assigns, row_assigns, moves, row_moves}
-use Rattle.io_depend.specs.Rows.{Rows, has_bit, with_bits, with_each, each_bits, through_bits, expr_bits, exprs_bits, target_bits, reading_bits, end_bits, copy_bits, assignment_bits, read_bits, row_bits, in_arrays, in_pointer, spread, row_spread}
+use Rattle.io_depend.specs.Rows.{Rows, has_bit, through_bits, expr_bits, exprs_bits, target_bits, reading_bits, end_bits, copy_bits, assignment_bits, read_bits, row_bits, in_arrays, in_pointer, spread, row_spread}
 use Rattle.io_depend.proofs.SetLemmas.{or_none, and_none, or_grouped, has_append, same_any}
 use Rattle.io_depend.proofs.BitLemmas.{bit_of_or, bit_of_none, bit_with, bit_with_each, bits_length, each_length, bit_of_each}
 

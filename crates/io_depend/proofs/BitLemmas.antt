@@ -1,14 +1,14 @@
 -- One bit of rows that are made of others.
-use Rattle.std.proofs.Common.{◌≡◌, ◌∙◌, ◌⊎◌, ℕ, zero, suc, ◌+◌, ◌-◌, ◌^◌, ◌<◌, ◌≤◌, max, Bool, true, false, ◌||◌, ◌&&◌, ◌==◌, ltb, cond, List, [], ◌∷◌, length, slice_index, slice_set, replicate, bit_or, refl, sym, ap, subst, arith}
+use Rattle.std.proofs.Common.{◌≡◌, ◌∙◌, ℕ, zero, suc, ◌+◌, ◌^◌, ◌<◌, ◌≤◌, max, Bool, true, false, ◌||◌, ◌&&◌, ◌==◌, ltb, cond, List, [], ◌∷◌, length, slice_index, slice_set, bit_or, refl, sym, ap, arith}
 use Rattle.std.specs.Int.{bit_at}
 use Rattle.std.specs.List.{list_any}
 use Rattle.std.proofs.lemmas.Bool.{cases_eq, cases_lt, eq-eqb, ne_eqb, lt-ltb, le-ltb}
-use Rattle.std.proofs.lemmas.List.{length-set, get_or-set_same, get_or-set_other, get_or_past}
+use Rattle.std.proofs.lemmas.List.{length-set, get_or-set_same, get_or-set_other}
 use Rattle.std.proofs.lemmas.Nat.Bits.{bit_at-zero, bit_at_or, bit_at-pow_same, bit_at-pow_other}
 use mathlib.Core.Logic.{⊎_elim}
 use Rattle.io_depend.specs.Sets.{has}
 use Rattle.io_depend.specs.Rows.{has_bit, with_bits, with_each, with_all, each_bits, own_bit}
-use Rattle.io_depend.proofs.SetLemmas.{or_none, or_grouped, or_swapped, and_none}
+use Rattle.io_depend.proofs.SetLemmas.{or_none, or_grouped, and_none}
 
 -- the greater of two bits
 greater : (a b : ℕ) → a < 2 → b < 2 → (max a b == 1) ≡ ((a == 1) || (b == 1))
@@ -51,11 +51,11 @@ bits_length rows n row = length-set rows n _
 pub bit_with : (rows : List ℕ) (n row x b : ℕ) → x < length rows → has_bit (slice_index (with_bits rows n row) x) b ≡ (has_bit (slice_index rows x) b || ((n == x) && has_bit row b))
 bit_with rows n row x b there =
     let same : n ≡ x → has_bit (slice_index (with_bits rows n row) x) b ≡ (has_bit (slice_index rows x) b || ((n == x) && has_bit row b)) =
-        λ e. ap (λ y. has_bit y b) (ap (λ j. slice_index (slice_set rows j (bit_or (slice_index rows j) row)) x) e ∙ get_or-set_same rows x _ 0 there)
-            ∙ bit_of_or (slice_index rows x) row b ∙ ap (λ t. has_bit (slice_index rows x) b || (t && has_bit row b)) (sym (eq-eqb n x e)) in
+    λ e. ap (λ y. has_bit y b) (ap (λ j. slice_index (slice_set rows j (bit_or (slice_index rows j) row)) x) e ∙ get_or-set_same rows x _ 0 there)
+    ∙ bit_of_or (slice_index rows x) row b ∙ ap (λ t. has_bit (slice_index rows x) b || (t && has_bit row b)) (sym (eq-eqb n x e)) in
     let other : (n ≡ x → ⊥) → has_bit (slice_index (with_bits rows n row) x) b ≡ (has_bit (slice_index rows x) b || ((n == x) && has_bit row b)) =
-        λ apart. ap (λ y. has_bit y b) (get_or-set_other rows n x _ 0 (λ e. apart (sym e)))
-            ∙ sym (or_none _) ∙ ap (λ t. has_bit (slice_index rows x) b || (t && has_bit row b)) (sym (ne_eqb n x apart)) in
+    λ apart. ap (λ y. has_bit y b) (get_or-set_other rows n x _ 0 (λ e. apart (sym e)))
+    ∙ sym (or_none _) ∙ ap (λ t. has_bit (slice_index rows x) b || (t && has_bit row b)) (sym (ne_eqb n x apart)) in
     ⊎_elim same other (cases_eq n x)
 
 -- the rows of several numbers

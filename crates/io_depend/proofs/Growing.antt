@@ -1,10 +1,7 @@
 -- The pass only adds: what carries, goes on carrying, and a site that is found, stays found.
-use Rattle.std.proofs.Common.{◌≡◌, ◌∙◌, ℕ, Bool, true, false, ◌||◌, ◌==◌, List, [], ◌∷◌, ◌++◌, Option, refl, sym, ap}
+use Rattle.std.proofs.Common.{◌≡◌, ◌∙◌, ℕ, Bool, true, false, ◌||◌, ◌==◌, List, [], ◌∷◌, ◌++◌}
 use Rattle.std.specs.List.{list_any}
 use Rattle.std.proofs.lemmas.Bool.{or_left, or_right}
-use Rattle.task_ast.specs.declared.core_form.CoreExpr.{CoreExpr}
-use Rattle.task_ast.specs.declared.core_form.CoreTarget.{CoreTarget}
-use Rattle.task_ast.specs.declared.core_form.CoreEnd.{CoreEnd}
 use Rattle.task_ast.specs.declared.core_form.CoreStmt.{CoreStmt, Row_of-CoreStmt, end_of-CoreStmt, more_of-CoreStmt}
 use Rattle.task_ast.specs.declared.core_form.CoreStmt.TheVariants as stmt
 use Rattle.task_ast.specs.Pointing.{Pointing, target_arrays, reading_arrays, end_arrays}

@@ -214,8 +214,8 @@ module _ (b : ℕ) (s : Scope) (near : Pointing) (count : ℕ) where
     io_agrees {outer} {extra} {r} {c} turning k x args wx wargs row around on h =
         let found = exprs_bits near r row args in
         let own = bit_of_or (bit_or (own_bit k) row) (reading_bits near r x) b
-            ∙ (λ i. (bit_of_or (own_bit k) row b ∙ (λ j. bit_of_own k b small j || on j)) i || reading_agrees b s near same h turning x wx i)
-            ∙ sym (or_grouped (k == suc b) around (reading_carries s.points c x)) in
+        ∙ (λ i. (bit_of_or (own_bit k) row b ∙ (λ j. bit_of_own k b small j || on j)) i || reading_agrees b s near same h turning x wx i)
+        ∙ sym (or_grouped (k == suc b) around (reading_carries s.points c x)) in
         arrays_on ((k == suc b) || (around || reading_carries s.points c x)) (reading_arrays s.points x) (bit_or (bit_or (own_bit k) row) (reading_bits near r x)) own
         (spreads_arrays b s near same (reading_arrays near x) (reading_arrays s.points x) (same_reading b s near same turning x wx) _ (in_site r k found))
         (site_on (around || list_any (carries s.points c) args) k found (exprs_agree b s near same h args row wargs ∙ ap (λ t. t || list_any (carries s.points c) args) on) h)
@@ -240,8 +240,8 @@ module _ (b : ℕ) (s : Scope) (near : Pointing) (count : ℕ) where
       agrees (stmt.Assign x e) level branched turning w row around on outer extra r c h =
           let bits = bit_or (bit_or row (target_bits near r x)) (expr_bits near r e) in
           let flows = bit_of_or (bit_or row (target_bits near r x)) (expr_bits near r e) b
-              ∙ (λ i. (bit_of_or row (target_bits near r x) b ∙ (λ j. on j || target_agrees b s near same h turning x w.1 j)) i || expr_agrees b s near same h e w.2.1 i)
-              ∙ sym (or_grouped around (target_carries s.points c x) (carries s.points c e)) in
+          ∙ (λ i. (bit_of_or row (target_bits near r x) b ∙ (λ j. on j || target_agrees b s near same h turning x w.1 j)) i || expr_agrees b s near same h e w.2.1 i)
+          ∙ sym (or_grouped around (target_carries s.points c x) (carries s.points c e)) in
           arrays_on (around || (target_carries s.points c x || carries s.points c e)) (target_arrays s.points x) bits flows
           (spreads_arrays b s near same (target_arrays near x) (target_arrays s.points x) (same_target b s near same turning x w.1) bits r) h
       agrees (stmt.Point p array i) level branched turning w row around on outer extra r c h =
@@ -255,7 +255,7 @@ module _ (b : ℕ) (s : Scope) (near : Pointing) (count : ℕ) where
           let one = rows_do yes_row _ _ _ w.2 inside holds reaches outer extra r c h in
           let first = row_passed s.points (λ k. k == suc b) yes_row holds c in
           merges one (rows_do no_row _ _ _ w.3 inside holds reaches (first.sites ++ outer) (has_some first.sites || extra) _ c
-              (begins_other h (row_grows s.points (λ k. k == suc b) yes_row holds c) one))
+          (begins_other h (row_grows s.points (λ k. k == suc b) yes_row holds c) one))
       agrees (stmt.Loop' i turns m body) level branched turning w row around on outer extra r c h =
           let bits = bit_or row (row_bits near r 0 body) in
           both_on (around || row_reads s.points c body) (i ∷ row_assigns s.points body) (row_moves body) bits

@@ -1,6 +1,6 @@
 -- The same pass for all I/O sites at once, as the code does it: a row of bits for each array, pointer and site, where
 -- bit k - 1 stands for the I/O site k.
-use Rattle.std.specs.Prelude.{ℕ, zero, suc, ◌+◌, ◌-◌, ◌^◌, ◌<◌, Bool, true, false, ◌==◌, ltb, cond, List, [], ◌∷◌, length, Option, Some, None, slice_index, slice_index_or, slice_set, replicate, bit_or}
+use Rattle.std.specs.Prelude.{ℕ, zero, suc, ◌+◌, ◌^◌, Bool, ◌==◌, ltb, cond, List, [], ◌∷◌, Option, Some, None, slice_index, slice_index_or, slice_set, replicate, bit_or}
 use Rattle.std.specs.Int.{bit_at}
 use Rattle.task_ast.specs.declared.core_form.CoreExpr.{CoreExpr, end_of-CoreExpr, more_of-CoreExpr}
 use Rattle.task_ast.specs.declared.core_form.CoreExpr.TheVariants as expr

@@ -1,5 +1,5 @@
 //! A row of 128 bits for each array, pointer and site of a task; bit k - 1 stands for the I/O site k.
-ghost use Rattle.std.specs.Prelude.{◌≡◌, ◌+◌, ◌<◌, [], ◌∷◌, true, OnOk, IfOk, slice_index, replicate, length};
+ghost use Rattle.std.specs.Prelude.{◌≡◌, ◌+◌, ◌<◌, [], ◌∷◌, OnOk, IfOk, slice_index, replicate, length};
 ghost use Rattle.io_depend.specs.Rows.{Rows as Held, with_bits, with_all, with_each, own_bit, in_arrays, in_pointer, in_site, block_left, block_entered, other_branch, both_branches, no_rows, branch_of};
 
 use ease_base::NoMemory;
@@ -210,11 +210,4 @@ impl Rows {
     {
         self.sites
     }
-}
-
-#[tactic(auto, using(crate::proofs::BitLemmas::bit_of_each, crate::proofs::Growing::all_grow, crate::proofs::Passing::all_agree))]
-pub fn probe() -> bool
-    ensures { result ≡ true }
-{
-    true
 }
