@@ -1,15 +1,12 @@
 -- Small tasks in their checked form, for examples.
-use Rattle.std.specs.Prelude.{ℕ, zero, suc, ◌+◌, List, [], ◌∷◌, ◌++◌, length, map, Option, Some, None, codes}
+use Rattle.std.specs.Prelude.{ℕ, zero, suc, ◌+◌, List, [], ◌∷◌, ◌++◌, map, Some, None, codes}
 use Rattle.std.specs.List.{range_with_len}
-use Rattle.task_ast.specs.declared.tree.Ann.TheVariants.{Single, Timely, Always}
-use Rattle.task_ast.specs.declared.tree.Op2.TheVariants.{Add, Lt}
-use Rattle.task_ast.specs.declared.core_form.Site.{Site}
+use Rattle.task_ast.specs.declared.tree.Ann.TheVariants.{Single}
 use Rattle.task_ast.specs.declared.core_form.Site.TheVariants as site
 use Rattle.task_ast.specs.declared.core_form.CoreExpr.{CoreExpr}
-use Rattle.task_ast.specs.declared.core_form.CoreExpr.TheVariants.{Number, Cell, Through, Two}
+use Rattle.task_ast.specs.declared.core_form.CoreExpr.TheVariants.{Number, Cell, Through}
 use Rattle.task_ast.specs.declared.core_form.CoreTarget.{CoreTarget}
 use Rattle.task_ast.specs.declared.core_form.CoreTarget.TheVariants as target
-use Rattle.task_ast.specs.declared.core_form.CoreEnd.{CoreEnd}
 use Rattle.task_ast.specs.declared.core_form.CoreEnd.TheVariants as end
 use Rattle.task_ast.specs.declared.core_form.CoreStmt.{CoreStmt}
 use Rattle.task_ast.specs.declared.core_form.CoreStmt.TheVariants.{Assign, Point, If, Loop, Io, Block, Copy}

@@ -1,6 +1,6 @@
 -- Where words of I/O calls flow (docs/LANGUAGE.md, "Dependence"): one forward pass from some I/O sites, over the arrays
 -- and pointers that may carry their words.
-use Rattle.std.specs.Prelude.{ℕ, Bool, true, false, ◌||◌, cond, List, [], ◌∷◌, ◌++◌, Option, Some, None}
+use Rattle.std.specs.Prelude.{ℕ, Bool, false, ◌||◌, cond, List, [], ◌∷◌, ◌++◌, Option, Some, None}
 use Rattle.std.specs.List.{list_any}
 use Rattle.task_ast.specs.declared.core_form.CoreExpr.{CoreExpr, end_of-CoreExpr, more_of-CoreExpr}
 use Rattle.task_ast.specs.declared.core_form.CoreExpr.TheVariants as expr

@@ -1,3 +1,7 @@
 pub mod Depend
 pub mod Flow
+pub mod Laws
+pub mod Marks
+pub mod Rows
 pub mod Sets
+pub mod Told
