@@ -1,12 +1,8 @@
 -- What goes along holds of each word of an attempt where it holds of what comes behind: of events, values, calls and blocks.
-use Rattle.std.proofs.Common.{◌≡◌, ℕ, zero, suc, ◌+◌, ◌≤◌, List, [], ◌∷◌, length, Option, Some, None, Result, Ok, Err, refl, sym, ◌∙◌, subst, le-add_right, le_refl}
+use Rattle.std.proofs.Common.{◌≡◌, ℕ, zero, suc, ◌+◌, ◌≤◌, List, [], ◌∷◌, Option, Some, None, Result, Ok, Err, refl, sym, ◌∙◌, subst, le-add_right, le_refl}
 use Rattle.task_ast.specs.declared.core_form.CoreExpr.{CoreExpr}
 use Rattle.task_ast.specs.declared.core_form.CoreTarget.{CoreTarget}
-use Rattle.task_ast.specs.declared.core_form.CoreEnd.{CoreEnd}
-use Rattle.task_ast.specs.declared.core_form.CoreStmt.{CoreStmt, Row_of-CoreStmt, end_of-CoreStmt, more_of-CoreStmt}
-use Rattle.task_ast.specs.declared.core_form.CoreStmt.TheVariants as stmt
-use Rattle.task_ast.specs.declared.core_form.CoreExit.{CoreExit, end_of-CoreExit, more_of-CoreExit}
-use Rattle.task_ast.specs.declared.core_form.CoreExit.TheVariants as exit
+use Rattle.task_ast.specs.declared.core_form.CoreStmt.{CoreStmt}
 use Rattle.io_annot.specs.declared.choice.Mode.{Mode}
 use Rattle.io_annot.specs.declared.choice.Mode.TheVariants as mode
 use Rattle.io_annot.specs.declared.choice.Choice.{Choice}
@@ -14,26 +10,20 @@ use Rattle.io_annot.specs.declared.choice.Choice.TheVariants.{Keep, Issue}
 use Rattle.io_annot.specs.Choice.{choice}
 use Rattle.block_scope.specs.Enter.{entered}
 use Rattle.io_depend.specs.Depend.{dependents}
-use Rattle.region_split.specs.declared.class.DmaClass.{DmaClass}
-use Rattle.region_split.specs.declared.class.DmaClass.TheVariants as class
-use Rattle.region_split.specs.Regions.{region_of}
 use Rattle.walk_run.specs.declared.trap.Trap.{Trap}
 use Rattle.walk_run.specs.declared.place.Place.{Place}
 use Rattle.walk_run.specs.Store.{Store, put_word}
-use Rattle.walk_run.specs.Value.{value_of, target_place, end_place, with_room}
-use Rattle.walk_run.specs.Walk.{move_words}
+use Rattle.walk_run.specs.Value.{value_of, target_place}
 use Rattle.walk_run.specs.Plain.{Ran, done, trapped, chosen, plain_done}
-use Rattle.walk_run.specs.PlainSteps.{expr_steps, target_steps, end_steps, condition_steps, plain_steps}
-use Rattle.devices.specs.Journal.{JournalEvent, keep, looks, keeps, drops, issues, seals, copies}
-use Rattle.task_attempts.specs.State.{Setting, Valued, arguments, range, Record, of_reading, of_block, of_copy, Followed, Here, Log, Rest, Steps}
-use Rattle.task_attempts.specs.Changes.{with_store, with_mode, with_steps, spent, spent_by, with_record, with_looks, with_issue, with_region}
-use Rattle.task_attempts.specs.Costs.{call_steps, block_steps, copy_steps, moving_steps}
-use Rattle.task_attempts.specs.Told.{told, told_following, unless_trap, drop_one, drop_all, seal, look}
-use Rattle.task_attempts.specs.Values.{value, values, reading_place, put_into, copy_end, tested, branch, from_ran, plain_log}
+use Rattle.walk_run.specs.PlainSteps.{expr_steps, target_steps, condition_steps, plain_steps}
+use Rattle.devices.specs.Journal.{JournalEvent, looks, keeps, drops, issues, seals}
+use Rattle.task_attempts.specs.State.{Setting, arguments, Record, of_reading, of_block, Here, Log, Rest, Steps}
+use Rattle.task_attempts.specs.Changes.{with_store, with_mode, with_steps, spent, spent_by, with_record, with_looks, with_issue}
+use Rattle.task_attempts.specs.Costs.{call_steps, block_steps}
+use Rattle.task_attempts.specs.Told.{told, unless_trap, drop_one, drop_all, seal, look}
+use Rattle.task_attempts.specs.Values.{value, values, reading_place, put_into, branch, from_ran, plain_log}
 use Rattle.task_attempts.specs.Calls.{annotation, number_of, issue, issue_anew, kept_in, issued_with, by_choice, by_record, call_inside, call_log}
 use Rattle.task_attempts.specs.Blocks.{stamp_in, block_sealed, block_end, block_inside, block_log}
-use Rattle.task_attempts.specs.Copies.{words_at, put_words, shown, class_at, copy_valued, moved, brought, single_sealed, single_copy, private_copy, copy_by_class, again, copy_again, copy_anew, copy_by_record, copy_log}
-use Rattle.task_attempts.specs.Attempts.{statement_log, row_log, body_log, exit_log}
 use Rattle.task_attempts.specs.Along.{IsInner, IsLater, GoesAlong}
 
 -- a place with nothing new that counts is later

@@ -2,10 +2,11 @@
 use Rattle.std.proofs.Common.{◌≡◌, ℕ, List, [], ◌∷◌, ◌++◌, refl}
 use Rattle.task_ast.specs.declared.tree.Ann.TheVariants.{Timely, Always}
 use Rattle.task_ast.specs.declared.core_form.CoreExpr.TheBlock.{hidden-the_row-CoreExpr-0, shape-the_row-CoreExpr-0}
+use Rattle.walk_run.specs.Store.{place, word_at}
 use Rattle.devices.specs.Reading.{reading, values_in}
 use Rattle.devices.specs.Journal.{JournalEvent, begins, looks, keeps, drops, issues, seals, commits}
-use Rattle.task_attempts.specs.State.{Rules}
-use Rattle.task_attempts.specs.Boots.{boot_log, boots_from, expect}
+use Rattle.task_attempts.specs.State.{Rules, Standing, start}
+use Rattle.task_attempts.specs.Boots.{boot_log, boots_from, left_by, expect}
 use Rattle.task_attempts.specs.Journals.{retained}
 use Rattle.task_attempts.proofs.Programs as programs
 use Rattle.task_attempts.proofs.Programs.{sending, sensing, sense_and_send, sense_send_and_log}
@@ -104,3 +105,22 @@ a_failure_between_drops_drops_again : expect a_sense_that_is_logged (15 ∷ 4 �
     ∷ []
 unfolding hidden-the_row-CoreExpr-0 shape-the_row-CoreExpr-0 hidden boot_log boots_from values_in reading sense_send_and_log a_sense_that_is_logged sent_and_logged
 a_failure_between_drops_drops_again = refl
+
+-- ---- what is committed
+
+-- the standing behind boots with so many events each
+left_behind : Rules → (cuts : List ℕ) → Standing → Standing
+left_behind rules [] s = s
+left_behind rules (cut ∷ cuts) s = left_behind rules cuts (left_by rules cut s)
+
+-- the first word of an array behind boots of a whole run
+word_behind : Rules → (array : ℕ) → (cuts times : List ℕ) → ℕ
+word_behind rules array cuts times = word_at (left_behind rules cuts (start rules.core times)).committed (place array 0)
+
+-- n = 7 + 2 where it was issued twice, 7 + 1 where the first reading was kept; and n is the kept or the new temperature
+the_words_of_the_last_commit :
+    word_behind three_readings 0 (4 ∷ 6 ∷ []) (40 ∷ 90 ∷ []) ∷ word_behind three_readings 0 (5 ∷ 4 ∷ []) (40 ∷ 90 ∷ [])
+    ∷ word_behind two_temperatures 1 (5 ∷ 4 ∷ []) (50 ∷ 1050 ∷ []) ∷ word_behind two_temperatures 1 (5 ∷ 6 ∷ []) (50 ∷ 1051 ∷ []) ∷ []
+    ≡ 9 ∷ 8 ∷ 20 ∷ 21 ∷ []
+unfolding hidden-the_row-CoreExpr-0 shape-the_row-CoreExpr-0 hidden boot_log values_in reading sending sensing three_readings two_temperatures left_behind word_behind
+the_words_of_the_last_commit = refl
