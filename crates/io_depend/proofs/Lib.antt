@@ -1,4 +1,5 @@
 pub mod Agreement
+pub mod Behind
 pub mod BitLemmas
 mod Examples
 pub mod Growing

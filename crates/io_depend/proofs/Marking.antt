@@ -12,6 +12,7 @@ use Rattle.task_ast.specs.declared.core_form.CoreStmt.TheVariants as stmt
 use Rattle.task_ast.specs.Pointing.{addresses, all_addresses, addresses_if, addresses_loop, addresses_block}
 use Rattle.io_depend.specs.Sets.{has}
 use Rattle.io_depend.specs.Marks.{is_marked, with_marks, marks_after, marked, given_arrays, all_given}
+use Rattle.io_depend.specs.RangeLaws.{same_filter, range_more}
 use Rattle.io_depend.proofs.SetLemmas.{or_none, or_grouped, or_swapped}
 
 -- marks of arrays that come one behind the other
@@ -59,14 +60,6 @@ all_marked marks (x ∷ xs) a there =
     ∙ ap (λ t. t || has xs a) (set_marked marks x a there ∙ or_swapped (x == a) (is_marked marks a))
     ∙ sym (or_grouped (is_marked marks a) (x == a) (has xs a))
 
--- filters by tests that agree in a range
-one_test : (t u : Bool) (m : ℕ) (xs ys : List ℕ) → t ≡ u → xs ≡ ys → cond t (m ∷ xs) xs ≡ cond u (m ∷ ys) ys
-one_test t u m xs ys test rest = λ i. cond (test i) (m ∷ rest i) (rest i)
-
-pub same_filter : (f g : ℕ → Bool) (m n : ℕ) → ((a : ℕ) → a < m + n → f a ≡ g a) → filter f (range_with_len m n) ≡ filter g (range_with_len m n)
-same_filter f g m zero same = refl
-same_filter f g m (suc n) same = one_test (f m) (g m) m _ _ (same m (omega arith)) (same_filter f g (m + 1) n (λ a l. same a (omega arith)))
-
 pub after_length : (p : ℕ) (body : List CoreStmt) (arrays : ℕ) (marks after : List Bool) → marks ≡ replicate arrays false → after ≡ marks_after p body marks → length after ≡ arrays
 after_length p body arrays marks after none is =
     ap length is ∙ ap length (after_is p body marks) ∙ marks_length marks (all_addresses p body) ∙ ap length none ∙ length-replicate arrays false
@@ -83,13 +76,6 @@ given_is p body arrays marks after got row none is at listed =
     listed ∙ ap marked at ∙ ap (λ n. filter (is_marked after) (range_with_len 0 n)) long ∙ same_filter (is_marked after) (has (all_addresses p body)) 0 arrays test
 
 -- one array more is listed
-range_more : (m n : ℕ) → range_with_len m (n + 1) ≡ range_with_len m n ++ (m + n) ∷ []
-range_more m zero = let at : m ≡ m + 0 = omega arith in ap (λ k. k ∷ []) at
-range_more m (suc n) =
-    let next : suc n + 1 ≡ suc (n + 1) = omega arith in
-    let at : m + 1 + n ≡ m + suc n = omega arith in
-    ap (range_with_len m) next ∙ ap (λ xs. m ∷ xs) (range_more (m + 1) n ∙ ap (λ k. range_with_len (m + 1) n ++ k ∷ []) at)
-
 pub listed_more : (marks : List Bool) (n : ℕ) (is : Bool) (row after : List ℕ) → is ≡ is_marked marks n → row ≡ filter (is_marked marks) (range_with_len 0 n) → after ≡ row ++ cond is (n ∷ []) []
     → after ≡ filter (is_marked marks) (range_with_len 0 (n + 1))
 listed_more marks n is row after test so_far put =

@@ -20,16 +20,13 @@ use Rattle.io_depend.specs.Depend.{flow, depends}
 use Rattle.io_depend.specs.Marks.{given_arrays, all_given}
 use Rattle.io_depend.specs.Rows.{Rows, has_bit, own_bit, listed, no_rows, all_done}
 use Rattle.io_depend.specs.Told.{Tells, IsSiteOf, tells_later}
+use Rattle.io_depend.specs.RangeLaws.{any_cond, has_past, has_filter}
 use Rattle.io_depend.proofs.SetLemmas.{or_none, and_none, and_all}
 use Rattle.io_depend.proofs.BitLemmas.{bit_of_none}
 use Rattle.io_depend.proofs.Agreement.{SamePoints, Agrees}
 use Rattle.io_depend.proofs.Passing.{all_agree}
 
--- one number of a filtered range
-any_cond : (f : ℕ → Bool) (t : Bool) (a : ℕ) (xs : List ℕ) → list_any f (cond t (a ∷ xs) xs) ≡ ((t && f a) || list_any f xs)
-any_cond f true a xs = refl
-any_cond f false a xs = refl
-
+-- what is found in a filtered range
 mixed : (g h f x y : Bool) → (((g || h) && f) || (x || y)) ≡ (((g && f) || x) || ((h && f) || y))
 mixed true h true x y = refl
 mixed true true false x y = refl
@@ -75,29 +72,6 @@ any_given : (f : ℕ → Bool) (n : ℕ) (xs : List ℕ) → AllByRecursion (λ 
 any_given f n [] all = any_none f (range_with_len 0 n)
 any_given f n (x ∷ xs) all =
     any_or f (λ a. x == a) (has xs) (range_with_len 0 n) ∙ (λ i. any_one f x 0 n (omega arith) (omega (arith, all.0)) i || any_given f n xs all.1 i)
-
--- whether a number of a range is among the filtered ones
-has_past : (f : ℕ → Bool) (k m n : ℕ) → k < m → has (filter f (range_with_len m n)) k ≡ false
-has_past f k m zero past = refl
-has_past f k m (suc n) past =
-    any_cond (λ y. y == k) (f m) m (filter f (range_with_len (m + 1) n))
-    ∙ (λ i. (f m && ne_eqb m k (λ e. absurd (omega (arith, e))) i) || has_past f k (m + 1) n (omega arith) i)
-    ∙ or_none (f m && false) ∙ and_none (f m)
-
-pub has_filter : (f : ℕ → Bool) (k m n : ℕ) → m ≤ k → k < m + n → has (filter f (range_with_len m n)) k ≡ f k
-has_filter f k m zero low high = absurd (omega arith)
-has_filter f k m (suc n) low high =
-    any_cond (λ y. y == k) (f m) m (filter f (range_with_len (m + 1) n))
-    ∙ here (cases_eq m k) (λ e. has_past f k (m + 1) n (omega (arith, e))) (λ apart. has_filter f k (m + 1) n (above apart) (omega arith))
-  where
-    above : (m ≡ k → ⊥) → m + 1 ≤ k
-    above apart = ⊎_elim (λ h. omega (arith, h)) (λ h. absurd (apart (omega (arith, low, h)))) (cases_lt m k)
-
-    here : (m ≡ k) ⊎ (m ≡ k → ⊥) → (m ≡ k → has (filter f (range_with_len (m + 1) n)) k ≡ false) → ((m ≡ k → ⊥) → has (filter f (range_with_len (m + 1) n)) k ≡ f k)
-        → ((f m && (m == k)) || has (filter f (range_with_len (m + 1) n)) k) ≡ f k
-    here cases past later = ⊎_elim
-        (λ e. (λ i. (f m && eq-eqb m k e i) || past e i) ∙ or_none (f m && true) ∙ and_all (f m) ∙ ap f e)
-        (λ apart. (λ i. (f m && ne_eqb m k apart i) || later apart i) ∙ ap (λ t. t || f k) (and_none (f m))) cases
 
 -- addresses that statements give are of arrays that are there
 one_there : (P : ℕ → Type 0) (t : Bool) (a : ℕ) → P a → AllByRecursion P (cond t (a ∷ []) [])

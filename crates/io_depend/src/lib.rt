@@ -2,6 +2,7 @@
 #![tactic(auto)]
 
 mod depends;
+mod laws;
 mod pass;
 mod points;
 mod reads;
@@ -9,3 +10,6 @@ mod rows;
 mod spread;
 
 pub use depends::{Depends, depend};
+pub use laws::{
+    dependents_come_later, no_statement_removes_a_site, statements_behind_a_site_change_nothing,
+};
