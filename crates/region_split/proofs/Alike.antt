@@ -108,9 +108,9 @@ module _ (c : Core) (t : CoreTask) (w : IsCoreTask c t) (d : Told) (told : Tells
       let at : 0 + r ≡ r = omega arith in
       same_filter (is_first c.arrays o r) (λ a. keeps_words (slice_get c.arrays a) && (writes_in ts r a && not (writes_before ts r a))) 0 (length c.arrays)
       (λ a l. ap (λ t. keeps_words (slice_get c.arrays a) && t)
-          (ap (λ q. owner_is (owner_of q a) r) (is ∙ owners_are)
-          ∙ ap (λ q. owner_is (owner_of (touched ts (unowned (length c.arrays))) a) q) (sym at)
-          ∙ owns ts (unowned (length c.arrays)) a (omega (arith, l, length-replicate {A = Option ℕ} (length c.arrays) None)) (get_or-replicate (length c.arrays) a None None (omega (arith, l))) bound r))
+      (ap (λ q. owner_is (owner_of q a) r) (is ∙ owners_are)
+      ∙ ap (λ q. owner_is (owner_of (touched ts (unowned (length c.arrays))) a) q) (sym at)
+      ∙ owns ts (unowned (length c.arrays)) a (omega (arith, l, length-replicate {A = Option ℕ} (length c.arrays) None)) (get_or-replicate (length c.arrays) a None None (omega (arith, l))) bound r))
 
   pub all_first_is : (o : Owners) (count : ℕ) (rows : List (List ℕ)) → o ≡ all_touched (listed d.points) t.body (unowned (length c.arrays)) → count ≡ regions t
       → rows ≡ map (first_arrays c.arrays o) (range_with_len 0 count) → rows ≡ all_first c t

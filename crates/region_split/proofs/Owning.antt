@@ -18,9 +18,9 @@ use Rattle.region_split.proofs.Touching.{touched_append}
 step : (x a : ℕ) (o : Owners) → a < length o.first → owner_of (touched_by (may_write x) o) a ≡ cond (x == a) (owner_or (owner_of o a) o.region) (owner_of o a)
 step x a o there = ⊎_elim
     (λ e. ap (λ j. slice_index_or (slice_set o.first j (owner_or (owner_of o j) o.region)) a None) e ∙ get_or-set_same o.first a (owner_or (owner_of o a) o.region) None there
-        ∙ ap (λ t. cond t (owner_or (owner_of o a) o.region) (owner_of o a)) (sym (eq-eqb x a e)))
+    ∙ ap (λ t. cond t (owner_or (owner_of o a) o.region) (owner_of o a)) (sym (eq-eqb x a e)))
     (λ apart. get_or-set_other o.first x a (owner_or (owner_of o x) o.region) None (λ e. apart (sym e))
-        ∙ ap (λ t. cond t (owner_or (owner_of o a) o.region) (owner_of o a)) (sym (ne_eqb x a apart)))
+    ∙ ap (λ t. cond t (owner_or (owner_of o a) o.region) (owner_of o a)) (sym (ne_eqb x a apart)))
     (cases_eq x a)
 
 step_same : (x a : ℕ) (o : Owners) → a < length o.first → x ≡ a → owner_of (touched_by (may_write x) o) a ≡ owner_or (owner_of o a) o.region
@@ -55,9 +55,9 @@ written (x ∷ xs) o a there =
 pub written_alike : (xs ys : List ℕ) (o : Owners) → ((a : ℕ) → a < length o.first → has xs a ≡ has ys a) → touched (map may_write xs) o ≡ touched (map may_write ys) o
 written_alike xs ys o same =
     let firsts : (touched (map may_write xs) o).first ≡ (touched (map may_write ys) o).first =
-        ext_get_or None _ _ (written_length xs o ∙ sym (written_length ys o))
-        (λ a l. let there : a < length o.first = omega (arith, l, written_length xs o) in
-            written xs o a there ∙ ap (λ t. cond t (owner_or (owner_of o a) o.region) (owner_of o a)) (same a there) ∙ sym (written ys o a there)) in
+    ext_get_or None _ _ (written_length xs o ∙ sym (written_length ys o))
+    (λ a l. let there : a < length o.first = omega (arith, l, written_length xs o) in
+    written xs o a there ∙ ap (λ t. cond t (owner_or (owner_of o a) o.region) (owner_of o a)) (same a there) ∙ sym (written ys o a there)) in
     let regions : (touched (map may_write xs) o).region ≡ (touched (map may_write ys) o).region = written_region xs o ∙ sym (written_region ys o) in
     λ i. record { region = regions i; first = firsts i }
 
