@@ -1,16 +1,18 @@
 -- Bounds on the parts of a line, and on the whole.
 use Rattle.std.specs.Prelude.{◌==◌, ◌-◌, codes, decimal, if◌then◌else◌}
 use Rattle.std.specs.List.{flat_map}
-use Rattle.std.proofs.Common.{ℕ, zero, suc, ◌+◌, ◌*◌, ◌<◌, ◌≤◌, Bool, true, false, All, List, [], ◌∷◌, ◌++◌, length, take, get_or, subst, sym, lit≤, length-append, arith}
+use Rattle.std.proofs.Common.{ℕ, zero, suc, ◌+◌, ◌*◌, ◌^◌, ◌<◌, ◌≤◌, Bool, true, false, All, List, [], ◌∷◌, ◌++◌, length, take, get_or, subst, sym, lit≤, length-append, arith}
 use Rattle.std.proofs.lemmas.Fmt.{length-decimal-le}
 use Rattle.devices.specs.Journal.{Place, cell, keep, address, JournalEvent, begins, looks, keeps, drops, issues, seals, copies, commits, traps}
+use Rattle.devices.specs.declared.event.RunEnd.{RunEnd}
+use Rattle.devices.specs.declared.event.RunEnd.TheVariants.{Halted, Trapped, Power}
 use Rattle.ease_base.specs.declared.place.Peripheral.{Peripheral}
-use Rattle.power_trace.specs.Report.{Style, number, peripheral_name, symbol_name, place_text, event_text, line}
-use Rattle.power_trace.specs.Short.{IsWord, IsWordPlace, HasWords, AreShort}
+use Rattle.power_trace.specs.Report.{Style, number, peripheral_name, symbol_name, place_text, event_text, end_text, line}
+use Rattle.power_trace.specs.Short.{IsWord, IsWordPlace, HasWords, IsWordEnd, AreShort}
 use Rattle.devices.specs.Journal.{arguments_of}
 use Rattle.devices.specs.declared.event.Args.{Args}
 use Rattle.std.proofs.lemmas.List.{get_or-take, length-take}
-use Rattle.word_isa.specs.Entries.{own, moved}
+use Rattle.word_isa.specs.Entries.{own, other_bank}
 use Rattle.word_isa.specs.declared.parts.Symbol.{Symbol}
 use Rattle.word_isa.specs.declared.span.Span.{Span}
 use Rattle.word_machine.specs.Places.{lies_in, place_from}
@@ -94,6 +96,26 @@ line_short style steps text fits small =
     let front = both (if style.brief then [] else decimal steps ++ codes " ") text 11 120 head small in
     omega (arith, both ((if style.brief then [] else decimal steps ++ codes " ") ++ text) (10 ∷ []) 131 1 front (lit≤ tt))
 
+-- a boot's line; its number has at most 20 digits
+pub boot_line_short : (style : Style) (steps k : ℕ) → IsWord steps → k < 2 ^ 64 → length (line style steps (codes "boot" ++ number k)) ≤ 256
+boot_line_short style steps k fits small =
+    let digits : length (decimal k) ≤ 20 = length-decimal-le 20 k (omega arith) (omega (arith, small)) (omega (arith, small)) in
+    let named : length (codes "boot" ++ number k) ≤ 25 = both (codes "boot") (number k) 4 21 (lit≤ tt) (both (codes " ") (decimal k) 1 20 (lit≤ tt) digits) in
+    line_short style steps (codes "boot" ++ number k) fits (omega (arith, named))
+
+end_short : (end : RunEnd) → IsWordEnd end → length (end_text end) ≤ 120
+end_short Halted fits = lit≤ tt
+end_short (Trapped code) fits = omega (arith, both (codes "end trapped") (number code) 11 11 (lit≤ tt) (number_short code fits))
+end_short Power fits = lit≤ tt
+
+-- an end's line
+pub end_line_short : (style : Style) (steps : ℕ) (end : RunEnd) → IsWord steps → IsWordEnd end → length (line style steps (end_text end)) ≤ 256
+end_line_short style steps end fits words = line_short style steps (end_text end) fits (end_short end words)
+
+-- a trap's line
+pub trap_line_short : (style : Style) (steps code : ℕ) → IsWord steps → IsWord code → length (line style steps (codes "trap" ++ number code)) ≤ 256
+trap_line_short style steps code fits word = line_short style steps (codes "trap" ++ number code) fits (omega (arith, named_short (codes "trap") code (lit≤ tt) word))
+
 pub event_line_short : (style : Style) (steps : ℕ) (e : JournalEvent) → AreShort style → IsWord steps → HasWords e → length (line style steps (event_text style e)) ≤ 256
 event_line_short style steps e short fits words = line_short style steps (event_text style e) fits (event_short style e short words)
 
@@ -110,7 +132,7 @@ bare_words false at fits = fits
 pub place_words : (symbols : List Symbol) (n stride : ℕ) (kept : Span) (at : ℕ) → IsWord at → IsWordPlace (place_from n symbols stride kept at)
 place_words [] n stride kept at fits = bare_words (lies_in kept at) at fits
 place_words (s ∷ symbols) n stride kept at fits =
-    chosen_words (lies_in (own s) at) (lies_in (moved stride s) at) (cell n (at - s.base)) (cell n (at - (moved stride s).from)) (place_from (suc n) symbols stride kept at)
+    chosen_words (lies_in (own s) at) (lies_in (other_bank stride s) at) (cell n (at - s.base)) (cell n (at - (other_bank stride s).from)) (place_from (suc n) symbols stride kept at)
     (omega (arith, fits)) (omega (arith, fits)) (place_words symbols (suc n) stride kept at fits)
 
 four_words : (count a b c d : ℕ) → IsWord a → IsWord b → IsWord c → IsWord d → All IsWord (take count (a ∷ b ∷ c ∷ d ∷ []))

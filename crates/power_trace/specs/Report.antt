@@ -7,7 +7,7 @@ use Rattle.devices.specs.declared.event.RunEnd.{RunEnd}
 use Rattle.devices.specs.declared.event.RunEnd.TheVariants.{Halted, Trapped, Power}
 use Rattle.ease_base.specs.declared.place.Peripheral.{Peripheral}
 use Rattle.word_isa.specs.declared.image.Image.{Image}
-use Rattle.word_isa.specs.Entries.{own, moved}
+use Rattle.word_isa.specs.Entries.{own, other_bank}
 use Rattle.word_isa.specs.declared.parts.Symbol.{Symbol}
 use Rattle.word_isa.specs.declared.span.Span.{Span}
 use Rattle.word_machine.specs.Places.{lies_in, place_of}
@@ -53,7 +53,7 @@ index_from range at = if lies_in range at then Some (at - range.from) else None
 
 -- which word of a symbol, in either bank; at the base first
 abbrev pub index_in : Symbol → (stride : ℕ) → ℕ → Option ℕ
-index_in s stride at = option_or (index_from (own s) at) (index_from (moved stride s) at)
+index_in s stride at = option_or (index_from (own s) at) (index_from (other_bank stride s) at)
 
 -- a look, without its time in a brief report
 abbrev pub look_text : (brief : Bool) → (site time : ℕ) → List ℕ
@@ -87,9 +87,13 @@ end_text Power = codes "end power"
 abbrev pub line : Style → (steps : ℕ) → List ℕ → List ℕ
 line style steps text = (if style.brief then [] else decimal steps ++ codes " ") ++ text ++ 10 ∷ []
 
+-- the lines of events with the numbers of their steps
+abbrev pub event_lines : Style → List (ℕ × JournalEvent) → List ℕ
+event_lines style events = flat_map (λ e. line style e.0 (event_text style e.1)) events
+
 -- the lines of a boot, the boots numbered from 1
 abbrev pub boot_lines : Style → (number : ℕ) → Boot → List ℕ
-boot_lines style k boot = line style boot.begun_at (codes "boot" ++ number k) ++ flat_map (λ e. line style e.0 (event_text style e.1)) boot.events
+boot_lines style k boot = line style boot.begun_at (codes "boot" ++ number k) ++ event_lines style boot.events
 
 -- the lines of boots from a number on
 abbrev pub boots_lines : Style → (number : ℕ) → List Boot → List ℕ

@@ -1,0 +1,4 @@
+pub mod Document
+pub mod Peripherals
+pub mod Tests
+pub mod WorldFile
