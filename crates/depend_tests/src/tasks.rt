@@ -9,7 +9,8 @@ use std::test::Fail;
 use task_check::check;
 use task_text::read_program;
 
-const NAMES: &str = "peripheral temp 0; peripheral radio 1; nv word a[4]; nv word n; nv word m; const nv word g[4]; word b[4]; word v; word u; word i; word *p; word *q; ";
+const NAMES: &str =
+    "peripheral temp 0; peripheral radio 1; nv word a[4]; nv word n; nv word m; const nv word g[4]; word b[4]; word v; word u; word i; word *p; word *q; ";
 
 const SENSE: &str = "v = IO(temp, TIMELY(1000)); ";
 
@@ -55,30 +56,129 @@ fn found(alloc: Global, text: &[u8]) -> Result<Option<(u32, u32, u32, u32, u32, 
     }
     let first = bits(regions.first(0));
     let last = bits(regions.first(count - 1));
-    Ok(Some((later(&d, 1), later(&d, 2), bits(d.points(0)), count, first, last)))
+    Ok(Some((
+        later(&d, 1),
+        later(&d, 2),
+        bits(d.points(0)),
+        count,
+        first,
+        last,
+    )))
 }
 
 #[test]
 fn each_rule_shows_in_a_task(rt: HostRuntime) -> Result<(), Fail> {
     let cases = [
-        ("IO(radio, SINGLE, v); IO(radio, SINGLE, v);", 0b1100u32, 0u32, 0u32, 1u32, 0u32, 0u32),
-        ("if (v) { IO(radio, SINGLE, 1); } else { IO(radio, SINGLE, 2); } IO(radio, SINGLE, 3);", 0b1100, 0, 0, 1, 0, 0),
-        ("if (v) { } else { u = 1; } IO(radio, SINGLE, u);", 0b100, 0, 0, 1, 0, 0),
-        ("for (i = 0; i < 3; i++) { u = n; n = v; } IO(radio, SINGLE, u); IO(radio, SINGLE, i);", 0b1100, 0, 0, 1, 0b10, 0b10),
-        ("IO_BLOCK(SINGLE) { u = IO(temp, SINGLE, v); IO(radio, SINGLE, u); }", 0b1100, 0, 0, 1, 0, 0),
-        ("p = &a[v]; DMA(b, p, 2); IO(radio, SINGLE, b[0]); IO(radio, SINGLE, a[0]);", 0b1100, 0, 1, 2, 0, 0),
-        ("DMA(b, a, v); IO(radio, SINGLE, b[0]);", 0b1100, 0, 0, 2, 0, 0),
-        ("p = &a[0]; p[1] = v; IO(radio, SINGLE, a[0]); IO(radio, SINGLE, p[0]);", 0b1100, 0, 1, 1, 1, 1),
-        ("p = &a[v]; IO(radio, SINGLE, p[0]); IO(radio, SINGLE, a[0]);", 0b100, 0, 1, 1, 0, 0),
+        (
+            "IO(radio, SINGLE, v); IO(radio, SINGLE, v);",
+            0b1100u32,
+            0u32,
+            0u32,
+            1u32,
+            0u32,
+            0u32,
+        ),
+        (
+            "if (v) { IO(radio, SINGLE, 1); } else { IO(radio, SINGLE, 2); } IO(radio, SINGLE, 3);",
+            0b1100,
+            0,
+            0,
+            1,
+            0,
+            0,
+        ),
+        (
+            "if (v) { } else { u = 1; } IO(radio, SINGLE, u);",
+            0b100,
+            0,
+            0,
+            1,
+            0,
+            0,
+        ),
+        (
+            "for (i = 0; i < 3; i++) { u = n; n = v; } IO(radio, SINGLE, u); IO(radio, SINGLE, i);",
+            0b1100,
+            0,
+            0,
+            1,
+            0b10,
+            0b10,
+        ),
+        (
+            "IO_BLOCK(SINGLE) { u = IO(temp, SINGLE, v); IO(radio, SINGLE, u); }",
+            0b1100,
+            0,
+            0,
+            1,
+            0,
+            0,
+        ),
+        (
+            "p = &a[v]; DMA(b, p, 2); IO(radio, SINGLE, b[0]); IO(radio, SINGLE, a[0]);",
+            0b1100,
+            0,
+            1,
+            2,
+            0,
+            0,
+        ),
+        (
+            "DMA(b, a, v); IO(radio, SINGLE, b[0]);",
+            0b1100,
+            0,
+            0,
+            2,
+            0,
+            0,
+        ),
+        (
+            "p = &a[0]; p[1] = v; IO(radio, SINGLE, a[0]); IO(radio, SINGLE, p[0]);",
+            0b1100,
+            0,
+            1,
+            1,
+            1,
+            1,
+        ),
+        (
+            "p = &a[v]; IO(radio, SINGLE, p[0]); IO(radio, SINGLE, a[0]);",
+            0b100,
+            0,
+            1,
+            1,
+            0,
+            0,
+        ),
         ("b[v] = 1; IO(radio, SINGLE, b[3]);", 0b100, 0, 0, 1, 0, 0),
-        ("p = &b[0]; p = &a[1]; q = &n; n = 1; DMA(p, g, 2); a[0] = 2; m = 3; n = 4;", 0, 0, 0b10001, 2, 0b10, 0b101),
-        ("n = IO(temp, SINGLE, u); DMA(b, g, 1); IO(radio, SINGLE, n);", 0, 0b10000, 0, 2, 0b10, 0),
+        (
+            "p = &b[0]; p = &a[1]; q = &n; n = 1; DMA(p, g, 2); a[0] = 2; m = 3; n = 4;",
+            0,
+            0,
+            0b10001,
+            2,
+            0b10,
+            0b101,
+        ),
+        (
+            "n = IO(temp, SINGLE, u); DMA(b, g, 1); IO(radio, SINGLE, n);",
+            0,
+            0b10000,
+            0,
+            2,
+            0b10,
+            0,
+        ),
     ];
     for (body, one, two, points, count, first, last) in cases {
         let text = format!(in rt.alloc(); "{NAMES}task t {{ {SENSE}{body} STOP; }}")?;
         if text.len() < 1000 {
             let is = found(rt.alloc(), text.as_bytes())?;
-            assert_eq!(rt; is, Some((one, two, points, count, first, last)), "for {body:?}");
+            assert_eq!(rt;
+                is,
+                Some((one, two, points, count, first, last)),
+                "for {body:?}"
+            );
         }
     }
     Ok(())

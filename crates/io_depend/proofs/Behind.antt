@@ -95,8 +95,8 @@ pub same_before : (t longer : CoreTask) (more : List CoreStmt) → longer.body �
     → (site k : ℕ) → k ≤ length t.sites → has (all_numbers more) k ≡ false → depends longer site k ≡ depends t site k
 same_before t longer more is points long site k within apart = ⊎_elim
     (λ h. has_filter (has (flow longer site).sites) k (site + 1) (length longer.sites - site) (omega (arith, h)) (omega (arith, h, within, long))
-        ∙ same_flow t longer more is points site k apart
-        ∙ sym (has_filter (has (flow t site).sites) k (site + 1) (length t.sites - site) (omega (arith, h)) (omega (arith, h, within))))
+    ∙ same_flow t longer more is points site k apart
+    ∙ sym (has_filter (has (flow t site).sites) k (site + 1) (length t.sites - site) (omega (arith, h)) (omega (arith, h, within))))
     (λ h. has_past (has (flow longer site).sites) k (site + 1) (length longer.sites - site) (omega (arith, h))
-        ∙ sym (has_past (has (flow t site).sites) k (site + 1) (length t.sites - site) (omega (arith, h))))
+    ∙ sym (has_past (has (flow t site).sites) k (site + 1) (length t.sites - site) (omega (arith, h))))
     (cases_lt site k)

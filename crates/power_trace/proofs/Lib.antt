@@ -2,4 +2,9 @@ mod Examples
 mod LineLemmas
 mod NameLemmas
 mod PlaceLemmas
+mod ReportLemmas
+mod RowLemmas
+mod RunExamples
+mod RunLemmas
 mod ShortLemmas
+mod WayLemmas

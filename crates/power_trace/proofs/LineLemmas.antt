@@ -53,3 +53,8 @@ nothing_left (x ∷ xs) e = absurd (omega arith)
 pub put_whole : (line text : List ℕ) → IsPut [] line text → length text ≤ 256 → line ≡ text
 unfolding IsPut
 put_whole line text put fits = put ∙ take_all 256 text fits
+
+-- a head, a text and a line feed, with room for all
+pub line_put : (l1 l2 l3 head text : List ℕ) → IsPut [] l1 head → IsPut l1 l2 text → IsPut l2 l3 (10 ∷ []) → length (head ++ text ++ 10 ∷ []) ≤ 256 → l3 ≡ head ++ text ++ 10 ∷ []
+line_put l1 l2 l3 head text first second third fits =
+    put_whole l3 (head ++ text ++ 10 ∷ []) (put_more [] l2 l3 (head ++ text) (10 ∷ []) (put_more [] l1 l2 head text first second) third) fits

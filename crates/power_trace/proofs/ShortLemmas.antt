@@ -1,12 +1,14 @@
 -- Bounds on the parts of a line, and on the whole.
 use Rattle.std.specs.Prelude.{◌==◌, ◌-◌, codes, decimal, if◌then◌else◌}
 use Rattle.std.specs.List.{flat_map}
-use Rattle.std.proofs.Common.{ℕ, zero, suc, ◌+◌, ◌*◌, ◌<◌, ◌≤◌, Bool, true, false, All, List, [], ◌∷◌, ◌++◌, length, take, get_or, subst, sym, lit≤, length-append, arith}
+use Rattle.std.proofs.Common.{ℕ, zero, suc, ◌+◌, ◌*◌, ◌^◌, ◌<◌, ◌≤◌, Bool, true, false, All, List, [], ◌∷◌, ◌++◌, length, take, get_or, subst, sym, lit≤, length-append, arith}
 use Rattle.std.proofs.lemmas.Fmt.{length-decimal-le}
 use Rattle.devices.specs.Journal.{Place, cell, keep, address, JournalEvent, begins, looks, keeps, drops, issues, seals, copies, commits, traps}
+use Rattle.devices.specs.declared.event.RunEnd.{RunEnd}
+use Rattle.devices.specs.declared.event.RunEnd.TheVariants.{Halted, Trapped, Power}
 use Rattle.ease_base.specs.declared.place.Peripheral.{Peripheral}
-use Rattle.power_trace.specs.Report.{Style, number, peripheral_name, symbol_name, place_text, event_text, line}
-use Rattle.power_trace.specs.Short.{IsWord, IsWordPlace, HasWords, AreShort}
+use Rattle.power_trace.specs.Report.{Style, number, peripheral_name, symbol_name, place_text, event_text, end_text, line}
+use Rattle.power_trace.specs.Short.{IsWord, IsWordPlace, HasWords, IsWordEnd, AreShort}
 use Rattle.devices.specs.Journal.{arguments_of}
 use Rattle.devices.specs.declared.event.Args.{Args}
 use Rattle.std.proofs.lemmas.List.{get_or-take, length-take}
@@ -93,6 +95,26 @@ line_short style steps text fits small =
     let head = either_short style.brief [] (decimal steps ++ codes " ") 11 (lit≤ tt) (both (decimal steps) (codes " ") 10 1 (digits_short steps fits) (lit≤ tt)) in
     let front = both (if style.brief then [] else decimal steps ++ codes " ") text 11 120 head small in
     omega (arith, both ((if style.brief then [] else decimal steps ++ codes " ") ++ text) (10 ∷ []) 131 1 front (lit≤ tt))
+
+-- a boot's line; its number has at most 20 digits
+pub boot_line_short : (style : Style) (steps k : ℕ) → IsWord steps → k < 2 ^ 64 → length (line style steps (codes "boot" ++ number k)) ≤ 256
+boot_line_short style steps k fits small =
+    let digits : length (decimal k) ≤ 20 = length-decimal-le 20 k (omega arith) (omega (arith, small)) (omega (arith, small)) in
+    let named : length (codes "boot" ++ number k) ≤ 25 = both (codes "boot") (number k) 4 21 (lit≤ tt) (both (codes " ") (decimal k) 1 20 (lit≤ tt) digits) in
+    line_short style steps (codes "boot" ++ number k) fits (omega (arith, named))
+
+end_short : (end : RunEnd) → IsWordEnd end → length (end_text end) ≤ 120
+end_short Halted fits = lit≤ tt
+end_short (Trapped code) fits = omega (arith, both (codes "end trapped") (number code) 11 11 (lit≤ tt) (number_short code fits))
+end_short Power fits = lit≤ tt
+
+-- an end's line
+pub end_line_short : (style : Style) (steps : ℕ) (end : RunEnd) → IsWord steps → IsWordEnd end → length (line style steps (end_text end)) ≤ 256
+end_line_short style steps end fits words = line_short style steps (end_text end) fits (end_short end words)
+
+-- a trap's line
+pub trap_line_short : (style : Style) (steps code : ℕ) → IsWord steps → IsWord code → length (line style steps (codes "trap" ++ number code)) ≤ 256
+trap_line_short style steps code fits word = line_short style steps (codes "trap" ++ number code) fits (omega (arith, named_short (codes "trap") code (lit≤ tt) word))
 
 pub event_line_short : (style : Style) (steps : ℕ) (e : JournalEvent) → AreShort style → IsWord steps → HasWords e → length (line style steps (event_text style e)) ≤ 256
 event_line_short style steps e short fits words = line_short style steps (event_text style e) fits (event_short style e short words)

@@ -1,3 +1,6 @@
+pub mod Live
 pub mod Put
 pub mod Report
+pub mod Run
 pub mod Short
+pub mod Writing

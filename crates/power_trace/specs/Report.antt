@@ -87,9 +87,13 @@ end_text Power = codes "end power"
 abbrev pub line : Style → (steps : ℕ) → List ℕ → List ℕ
 line style steps text = (if style.brief then [] else decimal steps ++ codes " ") ++ text ++ 10 ∷ []
 
+-- the lines of events with the numbers of their steps
+abbrev pub event_lines : Style → List (ℕ × JournalEvent) → List ℕ
+event_lines style events = flat_map (λ e. line style e.0 (event_text style e.1)) events
+
 -- the lines of a boot, the boots numbered from 1
 abbrev pub boot_lines : Style → (number : ℕ) → Boot → List ℕ
-boot_lines style k boot = line style boot.begun_at (codes "boot" ++ number k) ++ flat_map (λ e. line style e.0 (event_text style e.1)) boot.events
+boot_lines style k boot = line style boot.begun_at (codes "boot" ++ number k) ++ event_lines style boot.events
 
 -- the lines of boots from a number on
 abbrev pub boots_lines : Style → (number : ℕ) → List Boot → List ℕ

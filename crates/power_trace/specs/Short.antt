@@ -1,6 +1,8 @@
 -- How long a line of a report is (docs/MACHINE.md, "The report").
 use Rattle.std.specs.Prelude.{ℕ, ◌<◌, ◌≤◌, ◌^◌, All, length}
 use Rattle.devices.specs.Journal.{Place, cell, keep, address, JournalEvent, begins, looks, keeps, drops, issues, seals, copies, commits, traps}
+use Rattle.devices.specs.declared.event.RunEnd.{RunEnd}
+use Rattle.devices.specs.declared.event.RunEnd.TheVariants.{Halted, Trapped, Power}
 use Rattle.ease_base.specs.declared.place.Peripheral.{Peripheral}
 use Rattle.power_trace.specs.Report.{Style}
 use Rattle.word_isa.specs.declared.parts.Symbol.{Symbol}
@@ -26,6 +28,12 @@ HasWords (seals site) = IsWord site
 HasWords (copies site from to words) = IsWord site × IsWordPlace from × IsWordPlace to × IsWord words
 HasWords (commits next) = IsWord next
 HasWords (traps code) = IsWord code
+
+-- an end whose code is a word
+abbrev pub IsWordEnd : RunEnd → Type 0
+IsWordEnd Halted = Unit {0}
+IsWordEnd (Trapped code) = IsWord code
+IsWordEnd Power = Unit {0}
 
 -- names of at most 32 bytes, as all names of an image
 pub record AreShort (style : Style) : Type 0 where

@@ -108,13 +108,28 @@ module _ (c : Core) (t : CoreTask) (w : IsCoreTask c t) (d : Told) (told : Tells
       let at : 0 + r ≡ r = omega arith in
       same_filter (is_first c.arrays o r) (λ a. keeps_words (slice_get c.arrays a) && (writes_in ts r a && not (writes_before ts r a))) 0 (length c.arrays)
       (λ a l. ap (λ t. keeps_words (slice_get c.arrays a) && t)
-          (ap (λ q. owner_is (owner_of q a) r) (is ∙ owners_are)
-          ∙ ap (λ q. owner_is (owner_of (touched ts (unowned (length c.arrays))) a) q) (sym at)
-          ∙ owns ts (unowned (length c.arrays)) a (omega (arith, l, length-replicate {A = Option ℕ} (length c.arrays) None)) (get_or-replicate (length c.arrays) a None None (omega (arith, l))) bound r))
+      (ap (λ q. owner_is (owner_of q a) r) (is ∙ owners_are)
+      ∙ ap (λ q. owner_is (owner_of (touched ts (unowned (length c.arrays))) a) q) (sym at)
+      ∙ owns ts (unowned (length c.arrays)) a (omega (arith, l, length-replicate {A = Option ℕ} (length c.arrays) None)) (get_or-replicate (length c.arrays) a None None (omega (arith, l))) bound r))
 
   pub all_first_is : (o : Owners) (count : ℕ) (rows : List (List ℕ)) → o ≡ all_touched (listed d.points) t.body (unowned (length c.arrays)) → count ≡ regions t
       → rows ≡ map (first_arrays c.arrays o) (range_with_len 0 count) → rows ≡ all_first c t
   all_first_is o count rows is many made = made ∙ (λ i. map (λ r. first_is o is r i) (range_with_len 0 (many i)))
+
+  -- the same by what the code made on its way
+  pub told_first : (made o seen : Owners) (arrays count : ℕ) (body : List CoreStmt) (got : List Array) (sites : List Site) (rows : List (List ℕ))
+      → arrays ≡ length c.arrays → body ≡ t.body → made ≡ unowned arrays → o ≡ all_touched (listed d.points) body made → seen ≡ o → got ≡ c.arrays → sites ≡ t.sites
+      → count ≡ copies sites + 1 → rows ≡ map (first_arrays got seen) (range_with_len 0 count) → rows ≡ all_first c t
+  told_first made o seen arrays count body got sites rows a b fresh passes same g s many is =
+      let start = fresh ∙ ap unowned a in
+      all_first_is seen count rows (same ∙ passes ∙ (λ i. all_touched (listed d.points) (b i) (start i))) (many ∙ ap (λ xs. copies xs + 1) s)
+      (is ∙ ap (λ xs. map (first_arrays xs seen) (range_with_len 0 count)) g)
+
+-- one region more
+pub rows_more : (arrays : List Array) (o : Owners) (r : ℕ) (row : List ℕ) → row ≡ first_arrays arrays o r
+    → map (first_arrays arrays o) (range_with_len 0 r) ++ row ∷ [] ≡ map (first_arrays arrays o) (range_with_len 0 (r + 1))
+rows_more arrays o r row is =
+    ap (λ x. map (first_arrays arrays o) (range_with_len 0 r) ++ x ∷ []) is ∙ sym (map-range_with_len_more (first_arrays arrays o) 0 r r (omega arith))
 
 -- one array more
 pub first_more : (arrays : List Array) (o : Owners) (r n : ℕ) (belongs : Bool) (row after : List ℕ) → belongs ≡ is_first arrays o r n → row ≡ filter (is_first arrays o r) (range_with_len 0 n) → after ≡ row ++ cond belongs (n ∷ []) []

@@ -18,9 +18,9 @@ use Rattle.region_split.proofs.Touching.{touched_append}
 step : (x a : ℕ) (o : Owners) → a < length o.first → owner_of (touched_by (may_write x) o) a ≡ cond (x == a) (owner_or (owner_of o a) o.region) (owner_of o a)
 step x a o there = ⊎_elim
     (λ e. ap (λ j. slice_index_or (slice_set o.first j (owner_or (owner_of o j) o.region)) a None) e ∙ get_or-set_same o.first a (owner_or (owner_of o a) o.region) None there
-        ∙ ap (λ t. cond t (owner_or (owner_of o a) o.region) (owner_of o a)) (sym (eq-eqb x a e)))
+    ∙ ap (λ t. cond t (owner_or (owner_of o a) o.region) (owner_of o a)) (sym (eq-eqb x a e)))
     (λ apart. get_or-set_other o.first x a (owner_or (owner_of o x) o.region) None (λ e. apart (sym e))
-        ∙ ap (λ t. cond t (owner_or (owner_of o a) o.region) (owner_of o a)) (sym (ne_eqb x a apart)))
+    ∙ ap (λ t. cond t (owner_or (owner_of o a) o.region) (owner_of o a)) (sym (ne_eqb x a apart)))
     (cases_eq x a)
 
 step_same : (x a : ℕ) (o : Owners) → a < length o.first → x ≡ a → owner_of (touched_by (may_write x) o) a ≡ owner_or (owner_of o a) o.region
@@ -55,9 +55,9 @@ written (x ∷ xs) o a there =
 pub written_alike : (xs ys : List ℕ) (o : Owners) → ((a : ℕ) → a < length o.first → has xs a ≡ has ys a) → touched (map may_write xs) o ≡ touched (map may_write ys) o
 written_alike xs ys o same =
     let firsts : (touched (map may_write xs) o).first ≡ (touched (map may_write ys) o).first =
-        ext_get_or None _ _ (written_length xs o ∙ sym (written_length ys o))
-        (λ a l. let there : a < length o.first = omega (arith, l, written_length xs o) in
-            written xs o a there ∙ ap (λ t. cond t (owner_or (owner_of o a) o.region) (owner_of o a)) (same a there) ∙ sym (written ys o a there)) in
+    ext_get_or None _ _ (written_length xs o ∙ sym (written_length ys o))
+    (λ a l. let there : a < length o.first = omega (arith, l, written_length xs o) in
+    written xs o a there ∙ ap (λ t. cond t (owner_or (owner_of o a) o.region) (owner_of o a)) (same a there) ∙ sym (written ys o a there)) in
     let regions : (touched (map may_write xs) o).region ≡ (touched (map may_write ys) o).region = written_region xs o ∙ sym (written_region ys o) in
     λ i. record { region = regions i; first = firsts i }
 
@@ -74,7 +74,7 @@ turns (may_write x ∷ ts) = turns ts
 turns (next_region ∷ ts) = 1 + turns ts
 
 turns_append : (ts us : List Touch) → turns (ts ++ us) ≡ turns ts + turns us
-turns_append [] us = refl
+turns_append [] us = omega arith
 turns_append (may_write x ∷ ts) us = turns_append ts us
 turns_append (next_region ∷ ts) us = omega (arith, turns_append ts us)
 
@@ -141,6 +141,16 @@ never : (t : Bool) → (t && false) ≡ false
 never true = refl
 never false = refl
 
+written_here : (x : ℕ) (ts : List Touch) (a q r : ℕ) → x ≡ a → (q == q + r) ≡ (writes_in (may_write x ∷ ts) r a && not (writes_before (may_write x ∷ ts) r a))
+written_here x ts a q zero e = eq-eqb q (q + 0) (omega arith) ∙ ap (λ t. (t || writes_in ts 0 a) && true) (sym (eq-eqb x a e))
+written_here x ts a q (suc r) e =
+    ne_eqb q (q + suc r) (λ f. absurd (omega (arith, f)))
+    ∙ sym (ap (λ t. writes_in ts (suc r) a && not t) (in_before (may_write x ∷ ts) a r (ap (λ t. t || writes_in ts 0 a) (eq-eqb x a e))) ∙ never (writes_in ts (suc r) a))
+
+written_else : (x : ℕ) (ts : List Touch) (a r : ℕ) → (x ≡ a → ⊥) → (writes_in ts r a && not (writes_before ts r a)) ≡ (writes_in (may_write x ∷ ts) r a && not (writes_before (may_write x ∷ ts) r a))
+written_else x ts a zero apart = ap (λ t. (t || writes_in ts 0 a) && true) (sym (ne_eqb x a apart))
+written_else x ts a (suc r) apart = ap (λ t. writes_in ts (suc r) a && not t) (sym (other_before x a ts (suc r) apart))
+
 -- of an array that isn't written yet: the region that writes it first
 pub owns : (ts : List Touch) (o : Owners) (a : ℕ) → a < length o.first → owner_of o a ≡ None → o.region + turns ts ≤ 4294967295 → (r : ℕ)
     → owner_is (owner_of (touched ts o) a) (o.region + r) ≡ (writes_in ts r a && not (writes_before ts r a))
@@ -151,16 +161,6 @@ owns (may_write x ∷ ts) o a there none few r =
     (λ e. ap (λ w. owner_is w (o.region + r)) (stays ts (touched_by (may_write x) o) a o.region next (step_same x a o there e ∙ ap (λ w. owner_or w o.region) none)) ∙ written_here x ts a o.region r e)
     (λ apart. owns ts (touched_by (may_write x) o) a next (step_other x a o there apart ∙ none) few r ∙ written_else x ts a r apart)
     (cases_eq x a)
-  where
-    written_here : (x : ℕ) (ts : List Touch) (a q r : ℕ) → x ≡ a → (q == q + r) ≡ (writes_in (may_write x ∷ ts) r a && not (writes_before (may_write x ∷ ts) r a))
-    written_here x ts a q zero e = eq-eqb q (q + 0) (omega arith) ∙ ap (λ t. (t || writes_in ts 0 a) && true) (sym (eq-eqb x a e))
-    written_here x ts a q (suc r) e =
-        ne_eqb q (q + suc r) (λ f. absurd (omega (arith, f)))
-        ∙ sym (ap (λ t. writes_in ts (suc r) a && not t) (in_before (may_write x ∷ ts) a r (ap (λ t. t || writes_in ts 0 a) (eq-eqb x a e))) ∙ never (writes_in ts (suc r) a))
-
-    written_else : (x : ℕ) (ts : List Touch) (a r : ℕ) → (x ≡ a → ⊥) → (writes_in ts r a && not (writes_before ts r a)) ≡ (writes_in (may_write x ∷ ts) r a && not (writes_before (may_write x ∷ ts) r a))
-    written_else x ts a zero apart = ap (λ t. (t || writes_in ts 0 a) && true) (sym (ne_eqb x a apart))
-    written_else x ts a (suc r) apart = ap (λ t. writes_in ts (suc r) a && not t) (sym (other_before x a ts (suc r) apart))
 owns (next_region ∷ ts) o a there none few zero =
     let now : o.region + 0 ≡ o.region = omega arith in
     ap (λ q. owner_is (owner_of (touched ts (touched_by next_region o)) a) q) now ∙ past ts (touched_by next_region o) a o.region there none (omega (arith, few)) (omega (arith, few))

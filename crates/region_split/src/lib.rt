@@ -2,8 +2,10 @@
 #![tactic(auto)]
 
 mod class;
+mod laws;
 mod owners;
 mod regions;
 
 pub use class::{DmaClass, Memory, class_of};
+pub use laws::no_array_is_in_two_regions;
 pub use regions::{Regions, split};

@@ -1,5 +1,6 @@
 //! The nonvolatile arrays that each region of a task may write first.
-ghost use Rattle.std.specs.Prelude.{◌≡◌, ◌&&◌, ◌+◌, ◌<◌, ◌≤◌, [], ◌∷◌, ◌++◌, cond, IfOk, OnOk, Contains, length, slice_index_or};
+ghost use Rattle.std.specs.Prelude.{◌≡◌, ◌&&◌, ◌+◌, ◌<◌, ◌≤◌, [], ◌∷◌, ◌++◌, cond, IfOk, OnOk, Contains, length, map, slice_index_or};
+ghost use Rattle.std.specs.List.{range_with_len};
 ghost use Rattle.task_ast.specs.declared.core_form.Core.{Core as Program};
 ghost use Rattle.task_ast.specs.declared.core_form.CoreTask.{CoreTask as Task};
 ghost use Rattle.task_ast.specs.WellFormed.{IsWellFormed};
@@ -87,7 +88,7 @@ fn is_copy(site: &Site) -> bool
 
 // One more than the copies among the sites.
 fn count_regions(sites: &[Site]) -> u32
-    requires { length sites.now ≤ 128 }
+    requires { length sites.now < 4294967295 }
     ensures { result ≡ copies sites.now + 1 }
 {
     let mut count = 1;
@@ -99,6 +100,24 @@ fn count_regions(sites: &[Site]) -> u32
     count
 }
 
+// The nonvolatile arrays that each of so many regions writes first.
+fn rows_of(
+    alloc: Global,
+    arrays: &[Array],
+    owners: &Owners,
+    count: u32,
+) -> Result<Vec<Vec<u32>>, NoMemory>
+    requires { length arrays.now ≤ 4294967295 }
+    ensures rows { IfOk result (λ rows. map (λ row. row.items) rows.items ≡ map (first_arrays arrays.now owners.now) (range_with_len 0 count)) }
+    ensures many { IfOk result (λ rows. length rows.items ≡ count) }
+{
+    let mut first = Vec::new(alloc);
+    'regions: for region in 0..count {
+        first.push(first_of(alloc, arrays, owners, region)?)?;
+    }
+    Ok(first)
+}
+
 /// The regions of a task of a program, of which `depend` told this (docs/LANGUAGE.md, "Regions").
 pub fn split(alloc: Global, t: &CoreTask, c: &Core, d: &Depends) -> Result<Regions, NoMemory>
     requires well_formed { IsWellFormed c.now }
@@ -108,10 +127,8 @@ pub fn split(alloc: Global, t: &CoreTask, c: &Core, d: &Depends) -> Result<Regio
 {
     let mut owners = Owners::make(alloc, c.arrays.len())?;
     owners.touch(d, t.body.as_slice());
-    let mut first = Vec::new(alloc);
-    'regions: for region in 0..count_regions(t.sites.as_slice()) {
-        first.push(first_of(alloc, c.arrays.as_slice(), &owners, region)?)?;
-    }
+    let count = count_regions(t.sites.as_slice());
+    let first = rows_of(alloc, c.arrays.as_slice(), &owners, count)?;
     Ok(Regions { first })
 }
 

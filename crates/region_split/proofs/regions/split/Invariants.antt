@@ -1,8 +1,0 @@
--- The rows of the regions so far.
-use Rattle.std.proofs.Common.{◌≡◌, map}
-use Rattle.std.specs.List.{range_with_len}
-use Rattle.region_split.specs.Owners.{first_arrays}
-use Rattle.region_split.proofs.regions.split.Given as goal
-
-abbrev pub invariant-regions : goal.invariant-regions
-invariant-regions l = map (λ row. row.items) l.first.items ≡ map (first_arrays l.c.arrays l.owners) (range_with_len 0 l.region)
