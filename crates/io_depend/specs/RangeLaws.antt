@@ -1,0 +1,62 @@
+-- Laws of filtered ranges: what is in them, and how they go on.
+use Rattle.std.proofs.Common.{◌≡◌, ◌∙◌, ◌⊎◌, ℕ, zero, suc, ◌+◌, ◌<◌, ◌≤◌, Bool, true, false, ◌||◌, ◌&&◌, ◌==◌, cond, List, [], ◌∷◌, ◌++◌, filter, refl, sym, ap, arith}
+use Rattle.std.specs.List.{list_any, range_with_len}
+use Rattle.std.proofs.lemmas.Bool.{cases_eq, cases_lt, eq-eqb, ne_eqb}
+use mathlib.Core.Logic.{⊎_elim}
+use Rattle.io_depend.specs.Sets.{has}
+
+or_none : (a : Bool) → (a || false) ≡ a
+or_none true = refl
+or_none false = refl
+
+and_none : (a : Bool) → (a && false) ≡ false
+and_none true = refl
+and_none false = refl
+
+and_all : (a : Bool) → (a && true) ≡ a
+and_all true = refl
+and_all false = refl
+
+-- one number more
+pub any_cond : (f : ℕ → Bool) (t : Bool) (a : ℕ) (xs : List ℕ) → list_any f (cond t (a ∷ xs) xs) ≡ ((t && f a) || list_any f xs)
+any_cond f true a xs = refl
+any_cond f false a xs = refl
+
+-- whether a number of a range is among the filtered ones
+pub has_past : (f : ℕ → Bool) (k m n : ℕ) → k < m → has (filter f (range_with_len m n)) k ≡ false
+has_past f k m zero past = refl
+has_past f k m (suc n) past =
+    any_cond (λ y. y == k) (f m) m (filter f (range_with_len (m + 1) n))
+    ∙ (λ i. (f m && ne_eqb m k (λ e. absurd (omega (arith, e))) i) || has_past f k (m + 1) n (omega arith) i)
+    ∙ or_none (f m && false) ∙ and_none (f m)
+
+pub has_filter : (f : ℕ → Bool) (k m n : ℕ) → m ≤ k → k < m + n → has (filter f (range_with_len m n)) k ≡ f k
+has_filter f k m zero low high = absurd (omega arith)
+has_filter f k m (suc n) low high =
+    any_cond (λ y. y == k) (f m) m (filter f (range_with_len (m + 1) n))
+    ∙ here (cases_eq m k) (λ e. has_past f k (m + 1) n (omega (arith, e))) (λ apart. has_filter f k (m + 1) n (above apart) (omega arith))
+  where
+    above : (m ≡ k → ⊥) → m + 1 ≤ k
+    above apart = ⊎_elim (λ h. omega (arith, h)) (λ h. absurd (apart (omega (arith, low, h)))) (cases_lt m k)
+
+    here : (m ≡ k) ⊎ (m ≡ k → ⊥) → (m ≡ k → has (filter f (range_with_len (m + 1) n)) k ≡ false) → ((m ≡ k → ⊥) → has (filter f (range_with_len (m + 1) n)) k ≡ f k)
+        → ((f m && (m == k)) || has (filter f (range_with_len (m + 1) n)) k) ≡ f k
+    here cases past later = ⊎_elim
+        (λ e. (λ i. (f m && eq-eqb m k e i) || past e i) ∙ or_none (f m && true) ∙ and_all (f m) ∙ ap f e)
+        (λ apart. (λ i. (f m && ne_eqb m k apart i) || later apart i) ∙ ap (λ t. t || f k) (and_none (f m))) cases
+
+-- filters by tests that agree in a range
+one_test : (t u : Bool) (m : ℕ) (xs ys : List ℕ) → t ≡ u → xs ≡ ys → cond t (m ∷ xs) xs ≡ cond u (m ∷ ys) ys
+one_test t u m xs ys test rest = λ i. cond (test i) (m ∷ rest i) (rest i)
+
+pub same_filter : (f g : ℕ → Bool) (m n : ℕ) → ((a : ℕ) → a < m + n → f a ≡ g a) → filter f (range_with_len m n) ≡ filter g (range_with_len m n)
+same_filter f g m zero same = refl
+same_filter f g m (suc n) same = one_test (f m) (g m) m _ _ (same m (omega arith)) (same_filter f g (m + 1) n (λ a l. same a (omega arith)))
+
+-- one number more of a range
+pub range_more : (m n : ℕ) → range_with_len m (n + 1) ≡ range_with_len m n ++ (m + n) ∷ []
+range_more m zero = let at : m ≡ m + 0 = omega arith in ap (λ k. k ∷ []) at
+range_more m (suc n) =
+    let next : suc n + 1 ≡ suc (n + 1) = omega arith in
+    let at : m + 1 + n ≡ m + suc n = omega arith in
+    ap (range_with_len m) next ∙ ap (λ xs. m ∷ xs) (range_more (m + 1) n ∙ ap (λ k. range_with_len (m + 1) n ++ k ∷ []) at)
