@@ -1,9 +1,10 @@
 -- Laws of filtered ranges: what is in them, and how they go on.
 use Rattle.std.proofs.Common.{◌≡◌, ◌∙◌, ◌⊎◌, ℕ, zero, suc, ◌+◌, ◌<◌, ◌≤◌, Bool, true, false, ◌||◌, ◌&&◌, ◌==◌, cond, List, [], ◌∷◌, ◌++◌, filter, refl, sym, ap, arith}
-use Rattle.std.specs.List.{list_any, range_with_len}
+use Rattle.std.specs.List.{AllByRecursion, list_any, range_with_len}
 use Rattle.std.proofs.lemmas.Bool.{cases_eq, cases_lt, eq-eqb, ne_eqb}
 use mathlib.Core.Logic.{⊎_elim}
 use Rattle.io_depend.specs.Sets.{has}
+use Rattle.io_depend.specs.Laws.{Ascends}
 
 or_none : (a : Bool) → (a || false) ≡ a
 or_none true = refl
@@ -60,3 +61,29 @@ range_more m (suc n) =
     let next : suc n + 1 ≡ suc (n + 1) = omega arith in
     let at : m + 1 + n ≡ m + suc n = omega arith in
     ap (range_with_len m) next ∙ ap (λ xs. m ∷ xs) (range_more (m + 1) n ∙ ap (λ k. range_with_len (m + 1) n ++ k ∷ []) at)
+
+-- numbers from one on are more than a number before it
+all_above : (a m : ℕ) (xs : List ℕ) → a < m → AllByRecursion (λ x. m ≤ x) xs → AllByRecursion (λ x. a < x) xs
+all_above a m [] low all = tt
+all_above a m (x ∷ xs) low all = (omega (arith, low, all.0), all_above a m xs low all.1)
+
+all_later : (m : ℕ) (xs : List ℕ) → AllByRecursion (λ x. m + 1 ≤ x) xs → AllByRecursion (λ x. m ≤ x) xs
+all_later m [] all = tt
+all_later m (x ∷ xs) all = (omega (arith, all.0), all_later m xs all.1)
+
+filter_from : (f : ℕ → Bool) (m n : ℕ) → AllByRecursion (λ x. m ≤ x) (filter f (range_with_len m n))
+filter_from f m zero = tt
+filter_from f m (suc n) = here (f m) _ (all_later m _ (filter_from f (m + 1) n))
+  where
+    here : (t : Bool) (xs : List ℕ) → AllByRecursion (λ x. m ≤ x) xs → AllByRecursion (λ x. m ≤ x) (cond t (m ∷ xs) xs)
+    here true xs all = (omega arith, all)
+    here false xs all = all
+
+-- a filtered range ascends
+pub filter_ascends : (f : ℕ → Bool) (m n : ℕ) → Ascends (filter f (range_with_len m n))
+filter_ascends f m zero = tt
+filter_ascends f m (suc n) = here (f m) _ (all_above m (m + 1) _ (omega arith) (filter_from f (m + 1) n)) (filter_ascends f (m + 1) n)
+  where
+    here : (t : Bool) (xs : List ℕ) → AllByRecursion (λ x. m < x) xs → Ascends xs → Ascends (cond t (m ∷ xs) xs)
+    here true xs all rest = (all, rest)
+    here false xs all rest = rest

@@ -5,10 +5,10 @@ ghost use Rattle.task_ast.specs.CoreSites.{all_numbers};
 ghost use Rattle.task_ast.specs.Pointing.{Pointing, pointing};
 ghost use Rattle.io_depend.specs.Sets.{has};
 ghost use Rattle.io_depend.specs.Flow.{Carrying, passed};
-ghost use Rattle.io_depend.specs.Depend.{depends};
-ghost use Rattle.io_depend.specs.Laws.{Grows};
+ghost use Rattle.io_depend.specs.Depend.{depends, points};
+ghost use Rattle.io_depend.specs.Laws.{Grows, Ascends};
 
-use task_ast::{CoreStmt, CoreTask};
+use task_ast::{Core, CoreStmt, CoreTask};
 
 /// No statement removes a site: what carries a word of some sites goes on carrying it behind the statement, and a site
 /// that was found to depend stays found.
@@ -29,4 +29,10 @@ pub fn statements_behind_a_site_change_nothing(t: &CoreTask, longer: &CoreTask)
     ensures { (more : List Statement) → longer.now.body ≡ t.now.body ++ more → ((p : ℕ) → pointing longer.now p ≡ pointing t.now p)
         → length t.now.sites ≤ length longer.now.sites
         → (site k : ℕ) → k ≤ length t.now.sites → has (all_numbers more) k ≡ false → depends longer.now site k ≡ depends t.now site k }
+{}
+
+/// The arrays to which a pointer may point ascend, so none stands twice.
+#[tactic(auto, using(crate::specs::RangeLaws::filter_ascends))]
+pub fn pointed_arrays_ascend(c: &Core, t: &CoreTask)
+    ensures { (pointer : ℕ) → Ascends (points c.now t.now pointer) }
 {}

@@ -11,5 +11,6 @@ mod spread;
 
 pub use depends::{Depends, depend};
 pub use laws::{
-    dependents_come_later, no_statement_removes_a_site, statements_behind_a_site_change_nothing,
+    dependents_come_later, no_statement_removes_a_site, pointed_arrays_ascend,
+    statements_behind_a_site_change_nothing,
 };

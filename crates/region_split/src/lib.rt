@@ -7,5 +7,5 @@ mod owners;
 mod regions;
 
 pub use class::{DmaClass, Memory, class_of};
-pub use laws::no_array_is_in_two_regions;
+pub use laws::{first_arrays_ascend, no_array_is_in_two_regions};
 pub use regions::{Regions, split};
