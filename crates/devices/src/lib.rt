@@ -6,8 +6,6 @@ mod event;
 mod laws;
 mod outside;
 mod readings;
-#[cfg(test)]
-mod tests;
 mod world;
 
 pub use clock::Clock;

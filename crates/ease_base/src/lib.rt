@@ -13,8 +13,6 @@ mod place;
 mod reading;
 mod sink;
 mod system;
-#[cfg(test)]
-mod tests;
 
 pub use boxed::Boxed;
 pub use cabinet::Cabinet;

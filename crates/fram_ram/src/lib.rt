@@ -4,8 +4,6 @@
 mod engine;
 mod laws;
 mod memories;
-#[cfg(test)]
-mod tests;
 
 pub use engine::Engine;
 pub use laws::a_transfer_is_one_update_a_word;

@@ -3,8 +3,6 @@
 
 mod macros;
 mod table;
-#[cfg(test)]
-mod tests;
 mod words;
 
 pub use table::{Row, Table};

@@ -1,13 +1,13 @@
 -- The lines of the boots and the line of the end are the report.
-use Rattle.std.proofs.Common.{◌≡◌, ◌∙◌, ℕ, ◌+◌, ◌≤◌, Bool, List, [], ◌++◌, length, take, Option, refl, sym, ap, subst, append_assoc, append-nil, arith}
+use Rattle.std.proofs.Common.{◌≡◌, ◌∙◌, ℕ, ◌+◌, Bool, List, [], ◌++◌, length, Option, sym, ap, subst, append-nil, arith}
 use Rattle.std.proofs.Common.{take_all}
 use Rattle.devices.specs.Readings.{Series, values_of}
 use Rattle.devices.specs.declared.event.RunEnd.{RunEnd}
 use Rattle.devices.specs.declared.world.PowerRow.{PowerRow}
 use Rattle.ease_base.specs.Sink.{extended, TookFront}
 use Rattle.power_trace.proofs.WayLemmas.{IsOnWay, extended_more, front_of}
-use Rattle.power_trace.specs.Report.{Style, style_of, place_in, boots_lines, end_text, line, report}
-use Rattle.power_trace.specs.Run.{Prepared, program_in, journal_from, report_from}
+use Rattle.power_trace.specs.Report.{style_of, place_in, boots_lines, end_text, line, report}
+use Rattle.power_trace.specs.Run.{Prepared, program_in, report_from}
 use Rattle.power_trace.specs.Writing.{Wrote}
 use Rattle.word_isa.specs.declared.image.Image.{Image}
 use Rattle.word_machine.specs.Runs.{boots, total_steps, last_ending, end_of, journal}

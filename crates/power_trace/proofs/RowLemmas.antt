@@ -1,7 +1,6 @@
 -- The steps of a power row: each writes its line, and what is left of the row is the rest.
 use Rattle.std.specs.Prelude.{map, if◌then◌else◌}
-use Rattle.std.specs.List.{flat_map}
-use Rattle.std.proofs.Common.{◌≡◌, ◌∙◌, ℕ, zero, suc, ◌+◌, ◌-◌, ◌<◌, ◌≤◌, Bool, true, false, List, [], ◌∷◌, ◌++◌, Option, Some, None, refl, sym, ap, subst, append_assoc, append-nil, arith}
+use Rattle.std.proofs.Common.{◌≡◌, ◌∙◌, ℕ, zero, suc, ◌+◌, ◌≤◌, Bool, false, List, [], ◌∷◌, ◌++◌, Option, Some, None, refl, sym, ap, subst, append_assoc, append-nil, arith}
 use Rattle.devices.specs.Journal.{Place, JournalEvent}
 use Rattle.devices.specs.declared.event.Event.{Event}
 use Rattle.devices.specs.declared.event.RunEnd.{RunEnd}
@@ -11,7 +10,7 @@ use Rattle.power_trace.specs.Run.{told_text, end_told, end_in}
 use Rattle.power_trace.specs.Writing.{Wrote}
 use Rattle.word_isa.specs.declared.image.Image.{Image}
 use Rattle.word_machine.specs.Events.{told, event_next, stepped_next}
-use Rattle.word_machine.specs.RunLaws.{clock_rises, stays_halted, stays_trapped}
+use Rattle.word_machine.specs.RunLaws.{stays_halted, stays_trapped}
 use Rattle.word_machine.specs.Runs.{is_running, told_event, journal_event, numbered, steps_done}
 use Rattle.word_machine.specs.State.{Program, State}
 use Rattle.word_machine.specs.Step.{step, exec}

@@ -1,13 +1,12 @@
 -- Reports of small images on power rows, worked out by hand.
 use Rattle.std.specs.Prelude.{◌≡◌, ℕ, Bool, true, false, List, [], ◌∷◌, codes, refl}
 use Rattle.std.specs.Fmt.{digits}
-use Rattle.devices.specs.Journal.{Place}
 use Rattle.devices.specs.Reading.{reading, values_in}
 use Rattle.devices.specs.declared.world.Feed.{Feed}
 use Rattle.devices.specs.declared.world.PowerRow.{PowerRow}
 use Rattle.ease_base.specs.declared.place.Peripheral.{Peripheral}
 use Rattle.fram_ram.specs.Memories.{has_word}
-use Rattle.power_trace.specs.Report.{Style, report}
+use Rattle.power_trace.specs.Report.{report}
 use Rattle.word_isa.specs.Decoding.{decoded}
 use Rattle.word_isa.specs.Marks.{mark_at}
 use Rattle.word_machine.specs.Events.{event_next, stepped_next}

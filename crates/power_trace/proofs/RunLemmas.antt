@@ -1,16 +1,15 @@
 -- The boots of a run: each writes its lines, and what is left of the power rows is the rest.
 use Rattle.std.specs.Prelude.{codes, if◌then◌else◌}
-use Rattle.std.proofs.Common.{◌≡◌, ◌∙◌, ℕ, zero, suc, ◌+◌, ◌-◌, ◌<◌, ◌≤◌, Bool, true, false, List, [], ◌∷◌, ◌++◌, length, drop, get_or, Option, Some, None, refl, sym, ap, subst, append_assoc, append-nil, arith}
+use Rattle.std.proofs.Common.{◌≡◌, ◌∙◌, ℕ, zero, suc, ◌+◌, ◌<◌, ◌≤◌, Bool, true, false, List, [], ◌∷◌, ◌++◌, length, drop, get_or, Option, Some, None, refl, sym, ap, subst, append_assoc, arith}
 use Rattle.std.proofs.Math.Seq.{drop-cons}
 use Rattle.std.proofs.lemmas.List.Sums.{sum_by-cons}
-use Rattle.devices.specs.Journal.{Place, Boot}
 use Rattle.devices.specs.World.{steps_of, ticks_of}
 use Rattle.devices.specs.declared.event.RunEnd.{RunEnd}
 use Rattle.devices.specs.declared.event.RunEnd.TheVariants as ended
 use Rattle.devices.specs.declared.world.PowerRow.{PowerRow}
 use Rattle.power_trace.proofs.RowLemmas.{goes_on, ended_stays, ended_does, IsRowDone}
 use Rattle.power_trace.proofs.WayLemmas.{IsOnWay, way_begins, way_goes, way_ends}
-use Rattle.power_trace.specs.Report.{Style, style_of, place_in, event_lines, boot_lines, boots_lines, number, line}
+use Rattle.power_trace.specs.Report.{style_of, place_in, event_lines, boots_lines, number, line}
 use Rattle.power_trace.specs.Run.{end_in}
 use Rattle.power_trace.specs.Writing.{Wrote}
 use Rattle.word_isa.specs.declared.image.Image.{Image}

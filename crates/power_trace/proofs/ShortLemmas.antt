@@ -12,7 +12,7 @@ use Rattle.power_trace.specs.Short.{IsWord, IsWordPlace, HasWords, IsWordEnd, Ar
 use Rattle.devices.specs.Journal.{arguments_of}
 use Rattle.devices.specs.declared.event.Args.{Args}
 use Rattle.std.proofs.lemmas.List.{get_or-take, length-take}
-use Rattle.word_isa.specs.Entries.{own, moved}
+use Rattle.word_isa.specs.Entries.{own, other_bank}
 use Rattle.word_isa.specs.declared.parts.Symbol.{Symbol}
 use Rattle.word_isa.specs.declared.span.Span.{Span}
 use Rattle.word_machine.specs.Places.{lies_in, place_from}
@@ -132,7 +132,7 @@ bare_words false at fits = fits
 pub place_words : (symbols : List Symbol) (n stride : ℕ) (kept : Span) (at : ℕ) → IsWord at → IsWordPlace (place_from n symbols stride kept at)
 place_words [] n stride kept at fits = bare_words (lies_in kept at) at fits
 place_words (s ∷ symbols) n stride kept at fits =
-    chosen_words (lies_in (own s) at) (lies_in (moved stride s) at) (cell n (at - s.base)) (cell n (at - (moved stride s).from)) (place_from (suc n) symbols stride kept at)
+    chosen_words (lies_in (own s) at) (lies_in (other_bank stride s) at) (cell n (at - s.base)) (cell n (at - (other_bank stride s).from)) (place_from (suc n) symbols stride kept at)
     (omega (arith, fits)) (omega (arith, fits)) (place_words symbols (suc n) stride kept at fits)
 
 four_words : (count a b c d : ℕ) → IsWord a → IsWord b → IsWord c → IsWord d → All IsWord (take count (a ∷ b ∷ c ∷ d ∷ []))

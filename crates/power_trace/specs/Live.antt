@@ -1,5 +1,5 @@
 -- A machine on its way: its state and its program (docs/MACHINE.md, "The state").
-use Rattle.std.specs.Prelude.{◌≡◌, ℕ, List}
+use Rattle.std.specs.Prelude.{◌≡◌}
 use Rattle.devices.specs.Readings.{values_of}
 use Rattle.devices.specs.declared.outside.Outside.{Outside}
 use Rattle.power_trace.specs.declared.live.Live.{Live}

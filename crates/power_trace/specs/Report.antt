@@ -7,7 +7,7 @@ use Rattle.devices.specs.declared.event.RunEnd.{RunEnd}
 use Rattle.devices.specs.declared.event.RunEnd.TheVariants.{Halted, Trapped, Power}
 use Rattle.ease_base.specs.declared.place.Peripheral.{Peripheral}
 use Rattle.word_isa.specs.declared.image.Image.{Image}
-use Rattle.word_isa.specs.Entries.{own, moved}
+use Rattle.word_isa.specs.Entries.{own, other_bank}
 use Rattle.word_isa.specs.declared.parts.Symbol.{Symbol}
 use Rattle.word_isa.specs.declared.span.Span.{Span}
 use Rattle.word_machine.specs.Places.{lies_in, place_of}
@@ -53,7 +53,7 @@ index_from range at = if lies_in range at then Some (at - range.from) else None
 
 -- which word of a symbol, in either bank; at the base first
 abbrev pub index_in : Symbol → (stride : ℕ) → ℕ → Option ℕ
-index_in s stride at = option_or (index_from (own s) at) (index_from (moved stride s) at)
+index_in s stride at = option_or (index_from (own s) at) (index_from (other_bank stride s) at)
 
 -- a look, without its time in a brief report
 abbrev pub look_text : (brief : Bool) → (site time : ℕ) → List ℕ

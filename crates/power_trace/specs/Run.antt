@@ -1,5 +1,5 @@
 -- The run of an image on power rows, and what is written of it piece by piece (docs/MACHINE.md, "The report").
-use Rattle.std.specs.Prelude.{ℕ, ◌+◌, ◌≤◌, Bool, Option, Some, None, List, []}
+use Rattle.std.specs.Prelude.{ℕ, ◌≤◌, Bool, Option, Some, None, List, []}
 use Rattle.devices.specs.Journal.{Journal, traps, placed}
 use Rattle.devices.specs.Reading.{values_in}
 use Rattle.devices.specs.Readings.{Series, values_of}
@@ -8,7 +8,7 @@ use Rattle.devices.specs.declared.event.RunEnd.{RunEnd}
 use Rattle.devices.specs.declared.event.RunEnd.TheVariants as ended
 use Rattle.devices.specs.declared.world.PowerRow.{PowerRow}
 use Rattle.devices.specs.declared.world.World.{World}
-use Rattle.power_trace.specs.Report.{Style, style_of, place_in, event_text, line, report}
+use Rattle.power_trace.specs.Report.{style_of, place_in, event_text, line, report}
 use Rattle.word_isa.specs.declared.image.Image.{Image}
 use Rattle.word_machine.specs.Runs.{journal}
 use Rattle.word_machine.specs.State.{Program, program_of, start}

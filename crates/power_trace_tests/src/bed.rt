@@ -1,7 +1,7 @@
 //! What each test stands on: worlds of at most two power rows, and what a run of an image writes.
 ghost use Rattle.std.specs.Prelude.{◌≡◌, ◌∷◌, [], IfOk};
 ghost use Rattle.devices.specs.World.{IsWithinLimits};
-ghost use Rattle.power_trace_tests.specs.Rows.{AreShort, row_of};
+ghost use Rattle.power_trace_tests.specs.Rows.{AreShort, IsShort};
 
 use devices::{Feed, PowerRow, RunEnd, World};
 use ease_base::{List, MemSink, NoMemory, Words};
@@ -18,7 +18,7 @@ pub struct ShortRow {
 
 // The row as a world has it.
 fn power_row(row: ShortRow) -> PowerRow
-    ensures { result ≡ row_of row }
+    ensures { IsShort result }
 {
     PowerRow {
         on: u32::from(row.on),
@@ -47,13 +47,15 @@ fn no_rows(alloc: Global) -> Result<List<PowerRow>, NoMemory>
 fn one_row(alloc: Global, one: ShortRow) -> Result<List<PowerRow>, NoMemory>
     ensures { IfOk result AreShort }
 {
-    List::from_slice(alloc, &[power_row(one)])
+    let rows = List::from_slice(alloc, &[power_row(one)])?;
+    Ok(rows)
 }
 
 fn two_rows(alloc: Global, one: ShortRow, two: ShortRow) -> Result<List<PowerRow>, NoMemory>
     ensures { IfOk result AreShort }
 {
-    List::from_slice(alloc, &[power_row(one), power_row(two)])
+    let rows = List::from_slice(alloc, &[power_row(one), power_row(two)])?;
+    Ok(rows)
 }
 
 // One feed, of peripheral 0.

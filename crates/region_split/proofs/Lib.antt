@@ -1,1 +1,6 @@
+pub mod Alike
+pub mod Apart
 mod Examples
+pub mod Owning
+mod Programs
+pub mod Touching

@@ -1,1 +1,3 @@
 pub mod Class
+pub mod Owners
+pub mod Regions

@@ -16,7 +16,7 @@ use Rattle.word_isa.specs.Instructions.{row_of}
 use Rattle.word_isa.specs.Decoding.{rows_with, rest_is_clear, if_clear, instr_at, decoded}
 use Rattle.word_isa.specs.Parts.{IsPart, part_first, part_second}
 use Rattle.word_isa.specs.declared.listing.Operand.{Operand}
-use Rattle.word_isa.specs.Listing.{operand_text, instruction_table, word_text, entry_text, entry_of, form_of, form_operands, listed, instr_text, text_or_mark, operands_text}
+use Rattle.word_isa.specs.Listing.{operand_text, instruction_table, word_text, entry_text, table_entry, form_of, form_operands, listed, instr_text, text_or_mark, operands_text}
 use Rattle.word_isa.specs.RowLaws.{refilled, IsAtCode, numbered_at, rows_numbered}
 use Rattle.word_isa.specs.declared.fields.Fields.{Fields}
 use Rattle.word_isa.specs.declared.instr.Instr.{Instr}
@@ -109,13 +109,13 @@ form_of_refilled (op_a_b_m _ _ _) f = refl
 form_of_refilled (op_io _ _ _) f = refl
 form_of_refilled (op_dma _ _ _) f = refl
 
-entry_listed : (i : Instr) (code : ℕ) (f : Fields) → IsAtCode code i f.a f.b f.m f.t → entry_text (Some (entry_of i)) f ≡ instr_text i
+entry_listed : (i : Instr) (code : ℕ) (f : Fields) → IsAtCode code i f.a f.b f.m f.t → entry_text (Some (table_entry i)) f ≡ instr_text i
 entry_listed i code f at =
     let P : Operands → Type 0 = λ o. form_operands (form_of o) f ≡ listed o in
     ap (λ t. (row_of i).name ++ operands_text t) (subst P (sym at.is_filled) (form_of_refilled (row_of i).operands f))
 
 -- the table's entries don't depend on the fields
-same_entries : (a b m t : ℕ) → instruction_table ≡ map entry_of (rows_with a b m t)
+same_entries : (a b m t : ℕ) → instruction_table ≡ map table_entry (rows_with a b m t)
 unfolding instruction_table
 same_entries a b m t = refl
 
@@ -132,8 +132,8 @@ listed_at zero f i e = cc
 listed_at (suc n) f i e =
     let at : slice_get (rows_with f.a f.b f.m f.t) n ≡ Some i = through (slice_get (rows_with f.a f.b f.m f.t) n) f.a f.b f.m i e in
     let place : suc n - 1 ≡ n = omega arith in
-    let entry : slice_get instruction_table (suc n - 1) ≡ Some (entry_of i) =
-    ap (slice_get instruction_table) place ∙ (ap (λ t. slice_get t n) (same_entries f.a f.b f.m f.t) ∙ (slice_get-map entry_of (rows_with f.a f.b f.m f.t) n ∙ ap (option_map entry_of) at)) in
+    let entry : slice_get instruction_table (suc n - 1) ≡ Some (table_entry i) =
+    ap (slice_get instruction_table) place ∙ (ap (λ t. slice_get t n) (same_entries f.a f.b f.m f.t) ∙ (slice_get-map table_entry (rows_with f.a f.b f.m f.t) n ∙ ap (option_map table_entry) at)) in
     ap (λ o. entry_text o f) entry ∙ entry_listed i (1 + n) f (numbered_at (rows_with f.a f.b f.m f.t) 1 n i f.a f.b f.m f.t (rows_numbered f.a f.b f.m f.t) at)
 
 pub text_at_place : (rows : List Row) (k code : ℕ) (d : Row) (f : Fields) → entries rows ≡ instruction_table → k < length rows → k ≡ code - 1 → entry_text (Some (row_entry (get_or rows k d))) f ≡ entry_text (slice_get instruction_table (code - 1)) f

@@ -32,12 +32,12 @@ shift _ stride = 0
 abbrev pub own : Symbol → Span
 own s = span s.base s.length
 
-abbrev pub moved : ℕ → Symbol → Span
-moved stride s = span (s.base + shift s.kind stride) s.length
+abbrev pub other_bank : ℕ → Symbol → Span
+other_bank stride s = span (s.base + shift s.kind stride) s.length
 
 -- a range meets one of a symbol's
 abbrev pub overlaps : ℕ → Span → Symbol → Bool
-overlaps stride range s = meet range (own s) || meet range (moved stride s)
+overlaps stride range s = meet range (own s) || meet range (other_bank stride s)
 
 -- a range meets neither the kept words nor a range of an earlier symbol
 abbrev pub is_apart : Span → ℕ → List Symbol → Span → Bool
@@ -51,7 +51,7 @@ name_passes symbols peripherals name =
 -- each range lies where its kind's words do, and apart
 abbrev pub ranges_pass : Span → ℕ → List Symbol → Symbol → Bool
 ranges_pass kept stride earlier s =
-    is_home s.kind (own s) && is_home s.kind (moved stride s) && is_apart kept stride earlier (own s) && is_apart kept stride earlier (moved stride s)
+    is_home s.kind (own s) && is_home s.kind (other_bank stride s) && is_apart kept stride earlier (own s) && is_apart kept stride earlier (other_bank stride s)
 
 -- a symbol behind these earlier ones is good
 unfoldable pub symbol_passes : Span → ℕ → List Symbol → Symbol → Bool

@@ -63,12 +63,12 @@ form_operands form f =
     slice_index_or ([] ∷ (a ∷ []) ∷ (Number f.m ∷ []) ∷ (Number f.t ∷ []) ∷ (a ∷ b ∷ []) ∷ (a ∷ Number f.m ∷ []) ∷ (a ∷ b ∷ Number f.m ∷ []) ∷ (a ∷ b ∷ Register f.m ∷ []) ∷ []) form []
 
 -- the code, the name and the form of an instruction's row
-abbrev pub entry_of : Instr → Entry
-entry_of i = record { code = (row_of i).code; name = (row_of i).name; form = form_of (row_of i).operands }
+abbrev pub table_entry : Instr → Entry
+table_entry i = record { code = (row_of i).code; name = (row_of i).name; form = form_of (row_of i).operands }
 
 -- the rows of the table, whose codes are those of the instructions' words
 unfoldable pub instruction_table : List Entry
-instruction_table = map entry_of (rows_with 0 0 0 0)
+instruction_table = map table_entry (rows_with 0 0 0 0)
 
 -- what is written for an entry and fields
 abbrev pub entry_text : Option Entry → Fields → List ℕ

@@ -117,17 +117,17 @@ fn ranges_pass(kept: Span, stride: u16, earlier: &[Symbol], s: &Symbol) -> bool
     ensures { result ≡ spec.ranges_pass kept stride earlier.now s.now }
 {
     let own = own(s);
-    let moved = moved(stride, s);
+    let other = other_bank(stride, s);
     if !is_home(s.kind, own) {
         return false;
     }
-    if !is_home(s.kind, moved) {
+    if !is_home(s.kind, other) {
         return false;
     }
     if !is_apart(kept, stride, earlier, own) {
         return false;
     }
-    is_apart(kept, stride, earlier, moved)
+    is_apart(kept, stride, earlier, other)
 }
 
 // The range at a symbol's base.
@@ -138,8 +138,8 @@ fn own(s: &Symbol) -> Span
 }
 
 // The range in the second bank, which only nonvolatile words have; for others the first again.
-fn moved(stride: u16, s: &Symbol) -> Span
-    ensures { result ≡ spec.moved stride s.now }
+fn other_bank(stride: u16, s: &Symbol) -> Span
+    ensures { result ≡ spec.other_bank stride s.now }
 {
     Span::new(u64::from(s.base) + shift(s.kind, stride), s.length)
 }
@@ -182,5 +182,5 @@ fn overlaps_one(stride: u16, earlier: &[Symbol], range: Span) -> bool
 fn overlaps(stride: u16, range: Span, s: &Symbol) -> bool
     ensures { result ≡ spec.overlaps stride range s.now }
 {
-    range.meets(own(s)) || range.meets(moved(stride, s))
+    range.meets(own(s)) || range.meets(other_bank(stride, s))
 }

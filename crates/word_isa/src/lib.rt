@@ -6,8 +6,6 @@ mod encoding;
 mod entries;
 mod fields;
 mod image;
-#[cfg(test)]
-mod image_tests;
 mod instr;
 mod listing;
 mod mark;
@@ -15,8 +13,6 @@ mod marks;
 mod names;
 mod parts;
 mod span;
-#[cfg(test)]
-mod tests;
 mod unnamed;
 
 pub use checks::{banks_pass, first_bad_word, first_too_large, version_passes};

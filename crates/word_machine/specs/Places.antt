@@ -3,7 +3,7 @@ use Rattle.std.specs.Prelude.{ℕ, zero, suc, ◌+◌, ◌*◌, ◌-◌, ◌%◌
 use Rattle.devices.specs.Journal.{Place, cell, keep, address}
 use Rattle.task_ast.specs.declared.tree.Kind.{Kind}
 use Rattle.task_ast.specs.declared.tree.Kind.TheVariants.{Nv, Const, Vol}
-use Rattle.word_isa.specs.Entries.{span, own, moved}
+use Rattle.word_isa.specs.Entries.{span, own, other_bank}
 use Rattle.word_isa.specs.declared.parts.Symbol.{Symbol}
 use Rattle.word_isa.specs.declared.span.Span.{Span}
 
@@ -20,7 +20,7 @@ abbrev pub place_from : (number : ℕ) → List Symbol → (stride : ℕ) → Sp
 place_from number [] stride kept at = kept_or_bare kept at
 place_from number (s ∷ symbols) stride kept at =
     if lies_in (own s) at then cell number (at - s.base) else
-    if lies_in (moved stride s) at then cell number (at - (moved stride s).from) else place_from (suc number) symbols stride kept at
+    if lies_in (other_bank stride s) at then cell number (at - (other_bank stride s).from) else place_from (suc number) symbols stride kept at
 
 -- the place of an address in an image with these parts
 abbrev pub place_of : List Symbol → (stride keep keep_words : ℕ) → ℕ → Place

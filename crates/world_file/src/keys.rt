@@ -11,12 +11,14 @@ use ease_base::{List, Peripheral};
 use toml::Value;
 use toml::value::{Array, Table};
 
+// Whether a key is one of the top table.
 fn is_top_key(key: &str) -> bool
     ensures { result ≡ spec.is_top_key key.now }
 {
     key == "retained" || key == "power" || key == "readings"
 }
 
+// Whether a key is one of a power row.
 fn is_row_key(key: &str) -> bool
     ensures { result ≡ spec.is_row_key key.now }
 {
@@ -37,6 +39,7 @@ fn are_row_keys(row: &Table) -> bool
     are_known(row) && value_at(row, "on").is_some()
 }
 
+// Whether a value that is a table has the keys of a power row.
 fn has_row_keys(row: &Value) -> bool
     ensures { result ≡ spec.has_row_keys (view row.now) }
 {
@@ -46,19 +49,21 @@ fn has_row_keys(row: &Value) -> bool
     }
 }
 
+// Whether each value of the array does.
 fn have_row_keys(rows: &Array) -> bool
     ensures { result ≡ list_all (λ v. spec.has_row_keys (view v)) rows.now.items }
 {
     rows.iter().all(has_row_keys)
 }
 
+// Whether each key is one of the top table.
 fn are_top_keys(top: &Table) -> bool
     ensures { result ≡ list_all (λ e. spec.is_top_key (string_bytes e.0)) top.now.entries }
 {
     top.iter().all(|(key, _)| is_top_key(key.as_str()))
 }
 
-// Whether no power row has another key or lacks `on`.
+// Whether no power row has an unknown key or lacks `on`.
 fn has_row_keys_in(top: &Table) -> bool
     ensures { result ≡ list_all spec.has_row_keys (tree.values_at (codes "power") (table_view top.now)) }
 {
@@ -83,6 +88,7 @@ pub fn number_of(names: &List<Peripheral>, key: &[u8]) -> Option<u8>
     Some(found.number)
 }
 
+// Whether each key is a peripheral's name.
 fn are_names(names: &List<Peripheral>, readings: &Table) -> bool
     ensures { result ≡ list_all (λ e. is_some (spec.number_of names.now (string_bytes e.0))) readings.now.entries }
 {

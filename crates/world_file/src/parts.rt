@@ -18,12 +18,14 @@ use std::alloc::Global;
 use toml::Value;
 use toml::value::{Array, Table};
 
+// The word that a value is, 0 where it is none.
 fn word_of(value: &Value) -> u32
     ensures { result ≡ spec.word_of (view value.now) }
 {
     word_in(value).unwrap_or(0)
 }
 
+// The word at a key, 0 where none stands there.
 fn word_at(row: &Table, key: &str) -> u32
     ensures { result ≡ spec.word_at key.now (table_view row.now) }
 {
@@ -33,6 +35,7 @@ fn word_at(row: &Table, key: &str) -> u32
     }
 }
 
+// The power row of a table.
 fn row_in(row: &Table) -> PowerRow
     ensures { result ≡ spec.row_in (table_view row.now) }
 {
@@ -43,6 +46,7 @@ fn row_in(row: &Table) -> PowerRow
     }
 }
 
+// The power row of a value; all 0 where it is no table.
 fn row_of(value: &Value) -> PowerRow
     ensures { result ≡ spec.row_of (view value.now) }
 {
@@ -124,8 +128,9 @@ fn feeds_in(
     Ok(feeds)
 }
 
-fn power_of(alloc: Global, top: &Table) -> Result<List<PowerRow>, NoMemory>
-    ensures { IfOk result (λ rows. rows ≡ map spec.row_of (tree.values_at (codes "power") (table_view top.now))) }
+// The power rows of a top table.
+fn rows_of(alloc: Global, top: &Table) -> Result<List<PowerRow>, NoMemory>
+    ensures { IfOk result (λ rows. rows ≡ spec.rows_of (table_view top.now)) }
 {
     match array_at(top, "power") {
         Some(array) => rows_in(alloc, array),
@@ -133,6 +138,7 @@ fn power_of(alloc: Global, top: &Table) -> Result<List<PowerRow>, NoMemory>
     }
 }
 
+// The readings of an unbroken run.
 fn retained_of(alloc: Global, top: &Table) -> Result<Words, NoMemory>
     ensures { IfOk result (λ ws. ws ≡ map spec.word_of (tree.values_at (codes "retained") (table_view top.now))) }
 {
@@ -142,6 +148,7 @@ fn retained_of(alloc: Global, top: &Table) -> Result<Words, NoMemory>
     }
 }
 
+// The feeds of a top table.
 fn feeds_of(alloc: Global, names: &List<Peripheral>, top: &Table) -> Result<List<Feed>, NoMemory>
     requires apart { AreApart names.now }
     requires known { tests.has_known_names names.now (table_view top.now) ≡ true }
@@ -164,7 +171,7 @@ pub fn table_world(alloc: Global, names: &List<Peripheral>, top: &Table) -> Resu
     ensures fits { IfOk result (λ w. All IsFeed w.feeds) }
 {
     Ok(World {
-        power: power_of(alloc, top)?,
+        power: rows_of(alloc, top)?,
         feeds: feeds_of(alloc, names, top)?,
         retained: retained_of(alloc, top)?,
     })

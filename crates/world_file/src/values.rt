@@ -19,6 +19,7 @@ pub fn word_in(value: &Value) -> Option<u32>
     u32::try_from(n).ok()
 }
 
+// Whether a value is a word.
 fn is_word(value: &Value) -> bool
     ensures { result ≡ spec.is_word (view value.now) }
 {
@@ -32,7 +33,8 @@ fn has_words(array: &Array) -> bool
     array.iter().all(is_word)
 }
 
-pub fn are_words(value: &Value) -> bool
+// Whether it is an array of words.
+fn are_words(value: &Value) -> bool
     ensures { result ≡ spec.are_words (view value.now) }
 {
     match value.as_array() {
@@ -48,6 +50,7 @@ fn has_word_values(table: &Table) -> bool
     table.iter().all(|(_, value)| is_word(value))
 }
 
+// Whether it is a table of words.
 fn is_row(value: &Value) -> bool
     ensures { result ≡ spec.is_row (view value.now) }
 {
@@ -57,12 +60,14 @@ fn is_row(value: &Value) -> bool
     }
 }
 
+// Whether each value of the array is such a table.
 fn each_is_row(array: &Array) -> bool
     ensures { result ≡ list_all (λ v. spec.is_row (view v)) array.now.items }
 {
     array.iter().all(is_row)
 }
 
+// Whether it is an array of such tables.
 fn are_rows(value: &Value) -> bool
     ensures { result ≡ spec.are_rows (view value.now) }
 {
@@ -72,12 +77,14 @@ fn are_rows(value: &Value) -> bool
     }
 }
 
+// Whether each value of the table is an array of words.
 fn each_are_words(table: &Table) -> bool
     ensures { result ≡ list_all (λ e. spec.are_words (view e.1)) table.now.entries }
 {
     table.iter().all(|(_, values)| are_words(values))
 }
 
+// Whether it is a table of arrays of words.
 fn are_readings(value: &Value) -> bool
     ensures { result ≡ spec.are_readings (view value.now) }
 {
@@ -87,6 +94,7 @@ fn are_readings(value: &Value) -> bool
     }
 }
 
+// Whether `power` is absent or an array of tables of words.
 fn has_good_rows(top: &Table) -> bool
     ensures { result ≡ option_map_or spec.are_rows (get_member (codes "power") (table_view top.now)) true }
 {
@@ -96,6 +104,7 @@ fn has_good_rows(top: &Table) -> bool
     }
 }
 
+// Whether `retained` is absent or an array of words.
 fn has_good_words(top: &Table) -> bool
     ensures { result ≡ option_map_or spec.are_words (get_member (codes "retained") (table_view top.now)) true }
 {
@@ -105,6 +114,7 @@ fn has_good_words(top: &Table) -> bool
     }
 }
 
+// Whether `readings` is absent or a table of arrays of words.
 fn has_good_readings(top: &Table) -> bool
     ensures { result ≡ option_map_or spec.are_readings (get_member (codes "readings") (table_view top.now)) true }
 {

@@ -1,7 +1,6 @@
 -- Its parts have room, so they are there whole.
 use Rattle.std.specs.Prelude.{codes, decimal, ◌++◌, if◌then◌else◌}
 use Rattle.std.proofs.Common.{[], subst}
-use Rattle.devices.specs.Journal.{traps}
 use Rattle.power_trace.specs.Put.{IsPut}
 use Rattle.power_trace.specs.Report.{style_of, number}
 use Rattle.power_trace.proofs.LineLemmas.{line_put}

@@ -1,5 +1,5 @@
 -- Row by row.
-use Rattle.std.proofs.Common.{◌≡◌, ◌+◌, ◌∙◌, ◌∷◌, Some, None, drop, get_or, ap, subst, sym, arith}
+use Rattle.std.proofs.Common.{◌≡◌, ◌+◌, ◌∙◌, ◌∷◌, drop, get_or, ap, subst, sym, arith}
 use Rattle.std.proofs.lemmas.List.{drop_all}
 use Rattle.ease_base.specs.Sink.{extended, TookFront}
 use Rattle.devices.specs.declared.world.PowerRow.{PowerRow}

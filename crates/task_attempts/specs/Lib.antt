@@ -1,0 +1,15 @@
+pub mod Along
+pub mod Attempts
+pub mod Blocks
+pub mod Boots
+pub mod Calls
+pub mod Changes
+pub mod Copies
+pub mod Costs
+pub mod Journals
+pub mod Laws
+pub mod LogRows
+pub mod Sound
+pub mod State
+pub mod Told
+pub mod Values
