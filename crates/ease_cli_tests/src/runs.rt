@@ -14,13 +14,20 @@ const SHORT: &[u8] = &[
     69, 65, 83, 69, 1, 0, 0, 0, 0, 0, 0, 0, 0, 0, 1, 0, 0, 0, 0, 0, 0, 1, 0, 0, 0, 0, 0, 0, 0, 0,
     0, 0, 0,
 ];
+
 const TRAILING: &[u8] = &[
     69, 65, 83, 69, 1, 0, 0, 0, 0, 0, 0, 0, 0, 0, 1, 0, 0, 0, 0, 0, 0, 1, 0, 0, 0, 0, 0, 0, 0, 0,
     0, 0, 0, 0, 0,
 ];
 
 /// An image, a world, and the status and the text of a run, in full and in brief.
-type Case = (&'static [u8], &'static str, Status, &'static str, &'static str);
+type Case = (
+    &'static [u8],
+    &'static str,
+    Status,
+    &'static str,
+    &'static str,
+);
 
 const RUN: [Case; 8] = [
     (
@@ -44,13 +51,7 @@ const RUN: [Case; 8] = [
         "0 boot 1\n0 boot 2\n1 end halted\n",
         "boot 1\nboot 2\nend halted\n",
     ),
-    (
-        HALT,
-        "",
-        Status::PowerEnded,
-        "0 end power\n",
-        "end power\n",
-    ),
+    (HALT, "", Status::PowerEnded, "0 end power\n", "end power\n"),
     (
         SHORT,
         "",

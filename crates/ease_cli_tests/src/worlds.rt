@@ -125,13 +125,7 @@ const LINE: [&str; 4] = ["walk", "p", "5", "w"];
 #[test]
 fn walk_is_fed_what_the_world_retains(rt: HostRuntime) -> Result<(), Fail> {
     for (world, status, text) in WALKED {
-        let ran = run_pair(
-            rt.alloc(),
-            &LINE,
-            RADIO.as_bytes(),
-            world.as_bytes(),
-            &[],
-        )?;
+        let ran = run_pair(rt.alloc(), &LINE, RADIO.as_bytes(), world.as_bytes(), &[])?;
         assert_eq!(rt; ran.status, status, "for {world:?}");
         assert_eq!(rt; ran.out.taken(), text.as_bytes(), "for {world:?}");
     }
@@ -141,13 +135,7 @@ fn walk_is_fed_what_the_world_retains(rt: HostRuntime) -> Result<(), Fail> {
 #[test]
 fn a_refused_world_writes_the_line_of_its_first_fault(rt: HostRuntime) -> Result<(), Fail> {
     for (world, status, text) in REFUSED {
-        let ran = run_pair(
-            rt.alloc(),
-            &LINE,
-            RADIO.as_bytes(),
-            world.as_bytes(),
-            &[],
-        )?;
+        let ran = run_pair(rt.alloc(), &LINE, RADIO.as_bytes(), world.as_bytes(), &[])?;
         assert_eq!(rt; ran.status, status, "for {world:?}");
         assert_eq!(rt; ran.out.taken(), text.as_bytes(), "for {world:?}");
     }
@@ -159,7 +147,13 @@ fn files_are_fetched_and_refused_in_the_order_of_the_words(rt: HostRuntime) -> R
     let cases: [(&str, &[u8], &[u32], Status, &str); 6] = [
         (RADIO, b"", &[1], Status::ReadFault, "read fault\n"),
         (RADIO, b"", &[2], Status::ReadFault, "read fault\n"),
-        (RADIO, b"\xff", &[3], Status::WorldRefused, "world not-toml\n"),
+        (
+            RADIO,
+            b"\xff",
+            &[3],
+            Status::WorldRefused,
+            "world not-toml\n",
+        ),
         (
             "task",
             b"",
@@ -185,7 +179,11 @@ fn files_are_fetched_and_refused_in_the_order_of_the_words(rt: HostRuntime) -> R
     for (source, world, fails, status, text) in cases {
         let ran = run_pair(rt.alloc(), &LINE, source.as_bytes(), world, fails)?;
         assert_eq!(rt; ran.status, status, "for {source:?} {fails:?}");
-        assert_eq!(rt; ran.out.taken(), text.as_bytes(), "for {source:?} {fails:?}");
+        assert_eq!(rt;
+            ran.out.taken(),
+            text.as_bytes(),
+            "for {source:?} {fails:?}"
+        );
     }
     Ok(())
 }
