@@ -1,12 +1,11 @@
 -- In every boot of every run the records that are followed agree, whatever the cuts and the looks.
-use Rattle.std.proofs.Common.{◌≡◌, ℕ, zero, suc, List, [], ◌∷◌, ◌++◌, take, get_or, length, Option, Some, None, refl, ap, sym, subst, ◌∙◌}
+use Rattle.std.proofs.Common.{◌≡◌, ℕ, zero, suc, List, [], ◌∷◌, ◌++◌, take, get_or, Option, Some, None, refl, ap, sym, subst, ◌∙◌}
 use Rattle.std.specs.Prelude.{slice_get}
-use Rattle.std.specs.List.{AllByRecursion, range_with_len}
+use Rattle.std.specs.List.{AllByRecursion}
 use Rattle.std.specs.Prelude.{Bool, true, false, ◌+◌}
 use Rattle.attempt_laws.proofs.NumberLaws.{numbered_in_order}
 use Rattle.attempt_laws.proofs.RecordLaws.{Ends, task_fine}
 use Rattle.attempt_laws.specs.Records.{AllHold, AreNumbered, Hold, Holds, IsInOrder, IsNumbered}
-use Rattle.devices.specs.Journal.{begins, looks}
 use Rattle.devices.specs.declared.world.World.{World}
 use Rattle.io_flow.specs.Replay.{all_sites_in, row_sites_in, sites_in}
 use Rattle.task_ast.specs.CoreSites.{all_numbers, row_numbers, site_numbers}
@@ -50,13 +49,13 @@ in_order c t is = body_well_numbered (scope_of c t) 1 false [] t.body is.body �
 -- ---- what a boot begins with
 
 -- pointers at nothing
-none_pointed : {A : Type 0} (names : List A) (p : ℕ) → get_or (unset names) p None ≡ None
+pub none_pointed : {A : Type 0} (names : List A) (p : ℕ) → get_or (unset names) p None ≡ None
 none_pointed [] p = refl
 none_pointed (x ∷ names) zero = refl
 none_pointed (x ∷ names) (suc p) = none_pointed names p
 
 -- no record
-none_hold : (c : Core) (store : Store) (next : ℕ) → Hold c (fresh c store) next (λ k. None)
+pub none_hold : (c : Core) (store : Store) (next : ℕ) → Hold c (fresh c store) next (λ k. None)
 none_hold c store next = record { of_task = λ t is. record { last = λ _. 0; unset = none_pointed c.pointers; stand = λ k. tt } }
 
 module _ (rules : Rules) (numbered : AreNumbered rules.core) where
@@ -83,16 +82,16 @@ module _ (rules : Rules) (numbered : AreNumbered rules.core) where
   boot_holds n s hold = attempts_hold n (booted rules s) hold
 
 -- of the first events too
-taken_all : (P : Logged → Type 0) (n : ℕ) (log : Log) → AllByRecursion P log → AllByRecursion P (take n log)
+pub taken_all : (P : Logged → Type 0) (n : ℕ) (log : Log) → AllByRecursion P log → AllByRecursion P (take n log)
 taken_all P zero log all = tt
 taken_all P (suc n) [] all = tt
 taken_all P (suc n) (l ∷ log) all = (all.0, taken_all P n log all.1)
 
-after_holds : (c : Core) (s : Standing) (log : Log) → Holds c s → AllHold c log → Holds c (after s log)
+pub after_holds : (c : Core) (s : Standing) (log : Log) → Holds c s → AllHold c log → Holds c (after s log)
 after_holds c s [] hold all = hold
 after_holds c s (l ∷ log) hold all = after_holds c l.after log all.0.1 all.1
 
-agree_there : (c : Core) (log : Log) → AllHold c log → RecordsAgree log
+pub agree_there : (c : Core) (log : Log) → AllHold c log → RecordsAgree log
 agree_there c [] all = tt
 agree_there c (l ∷ log) all = (all.0.0, agree_there c log all.1)
 
@@ -110,10 +109,10 @@ numbered_there c [] well n t is = absurd (cc is)
 numbered_there c (x ∷ tasks) well zero t is = subst IsNumbered (cc is) (numbered_in_order x (in_order c x well.0))
 numbered_there c (x ∷ tasks) well (suc n) t is = numbered_there c tasks well.1 n t is
 
-are_numbered : (c : Core) → IsWellFormed c → AreNumbered c
+pub are_numbered : (c : Core) → IsWellFormed c → AreNumbered c
 are_numbered c well zero t is = absurd (cc is)
 are_numbered c well (suc n) t is = numbered_there c c.tasks well.tasks n t is
 
 -- the law, for every well-formed program, all cuts and all looks
-pub records_agree : (c : Core) (world : World) → IsWellFormed c → (cuts looks : List ℕ) → AllByRecursion RecordsAgree (boots (rules_of c world) cuts looks)
-records_agree c world well cuts looks = boots_agree (rules_of c world) (are_numbered c well) cuts (start c looks) (none_hold c (declared_store c) 1)
+pub records_agree : (c : Core) (world : World) → IsWellFormed c → (cuts times : List ℕ) → AllByRecursion RecordsAgree (boots (rules_of c world) cuts times)
+records_agree c world well cuts times = boots_agree (rules_of c world) (are_numbered c well) cuts (start c times) (none_hold c (declared_store c) 1)

@@ -1,10 +1,8 @@
 -- Words that are moved one by one, and words that are put back.
-use Rattle.std.proofs.Common.{◌≡◌, ◌≢◌, ℕ, zero, suc, ◌+◌, ◌≤◌, List, [], ◌∷◌, length, take, drop, get_or, set, refl, sym, ap, subst, ◌∙◌, arith, drop-cons, get_or-set_other}
+use Rattle.std.proofs.Common.{◌≡◌, ◌≢◌, ℕ, zero, suc, ◌+◌, ◌≤◌, List, [], ◌∷◌, length, take, drop, set, refl, sym, ap, subst, ◌∙◌, arith, drop-cons, get_or-set_other}
 use Rattle.walk_run.specs.StoreLaws.{words_same}
 use Rattle.attempt_laws.specs.Records.{Fits}
-use Rattle.task_attempts.specs.Boots.{after}
-use Rattle.task_attempts.specs.Changes.{put}
-use Rattle.task_attempts.specs.Copies.{again, moved, put_words, words_at}
+use Rattle.task_attempts.specs.Copies.{put_words, words_at}
 use Rattle.walk_run.specs.Store.{Store, place, put_word, word_at, words_of}
 use Rattle.walk_run.specs.Walk.{move_words}
 use Rattle.walk_run.specs.declared.place.Place.{Place}

@@ -5,9 +5,6 @@ use Rattle.std.proofs.lemmas.List.{get_or-take, get_or-drop, length-take-le, len
 use Rattle.walk_run.specs.StoreLaws.{words_same}
 use Rattle.attempt_laws.proofs.MoveLaws.{put_source, read_back, words_after}
 use Rattle.attempt_laws.specs.Records.{Fits}
-use Rattle.io_depend.specs.Flow.{moves}
-use Rattle.task_attempts.specs.Boots.{after}
-use Rattle.task_attempts.specs.Changes.{put}
 use Rattle.task_attempts.specs.Copies.{put_words, words_at}
 use Rattle.walk_run.specs.Store.{Store, place, put_word, word_at, words_of}
 use Rattle.walk_run.specs.Walk.{move_words}

@@ -1,5 +1,5 @@
 -- A task whose sites are numbered in the order of its text is numbered: what is found from an I/O site comes later.
-use Rattle.std.proofs.Common.{◌≡◌, ◌≢◌, ◌⊎◌, inl, inr, ℕ, zero, suc, ◌+◌, ◌-◌, ◌≤◌, ◌<◌, Bool, true, false, ◌||◌, ◌==◌, cond, List, [], ◌∷◌, ◌++◌, length, filter, Some, refl, sym, ap, ap₂, subst, ◌∙◌, arith, eqb-true, eq-eqb}
+use Rattle.std.proofs.Common.{◌≡◌, ◌≢◌, ◌⊎◌, inl, inr, ℕ, zero, suc, ◌+◌, ◌-◌, ◌≤◌, ◌<◌, Bool, true, false, ◌||◌, ◌==◌, cond, List, [], ◌∷◌, ◌++◌, length, filter, refl, sym, ap, ap₂, subst, ◌∙◌, arith, eqb-true, eq-eqb}
 use Rattle.std.specs.Prelude.{⊤}
 use Rattle.std.specs.List.{list_any, range_with_len}
 use Rattle.attempt_laws.proofs.SiteLists.{not_both}
@@ -10,7 +10,6 @@ use Rattle.io_depend.specs.Sets.{has, has_some, joined}
 use Rattle.io_flow.proofs.FlowBodies.{Includes, has-append, or_left, or_right}
 use Rattle.io_flow.proofs.FlowLaws.{has-joined}
 use Rattle.io_flow.proofs.FlowMeets.{append_left, append_right}
-use Rattle.io_flow.proofs.FlowRuns.{still}
 use Rattle.io_flow.proofs.FlowUnion.{Covered, Sound, cov_args, cov_carries, cov_end, or_true, sound_passed}
 use Rattle.io_flow.specs.Replay.{all_sites_in, row_sites_in, sites_in}
 use Rattle.task_ast.specs.Pointing.{Pointing, end_arrays, pointing, reading_arrays, target_arrays}

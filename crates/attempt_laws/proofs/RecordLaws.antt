@@ -1,19 +1,19 @@
 -- The law of records: records that are followed agree, in every boot of every run.
 use Rattle.std.proofs.Common.{◌≡◌, ◌≢◌, ℕ, zero, suc, ◌+◌, Bool, true, false, ◌||◌, ◌==◌, cond, List, [], ◌∷◌, ◌++◌, length, Option, Some, None, Result, Ok, Err, refl, sym, ap, subst, ◌∙◌, leb, leb-true, eqb-true, eq-eqb, append-nil, if◌then◌else◌}
-use Rattle.std.specs.Prelude.{⊤, ◌-◌, not, ◌&&◌, slice_get}
+use Rattle.std.specs.Prelude.{⊤, slice_get}
 use Rattle.attempt_laws.proofs.MoveLaws.{put_back, put_source}
 use Rattle.attempt_laws.proofs.MovedLaws.{moved_source, moves_alike, source_many}
 use Rattle.attempt_laws.proofs.SiteLists.{OnlyMet, all_only_met, append_joins, not_both, once_back, once_skip, skip_has}
 use Rattle.attempt_laws.specs.Records.{AllHold, AllStand, Fits, Hold, IsNumbered, IsOnce, Made, MadeCopy, Stands, all_acts_in}
 use Rattle.block_scope.specs.Enter.{entered}
-use Rattle.devices.specs.Journal.{JournalEvent, begins}
+use Rattle.devices.specs.Journal.{JournalEvent}
 use Rattle.devices.specs.Reading.{reading_in}
 use Rattle.ease_base.specs.Found.{with_found}
 use Rattle.io_annot.specs.Choice.{choice, is_expired}
 use Rattle.io_annot.specs.declared.choice.Choice.{Choice}
 use Rattle.io_annot.specs.declared.choice.Mode.{Mode}
 use Rattle.io_depend.specs.Depend.{dependents, flow}
-use Rattle.io_depend.specs.Flow.{all_passed, no_carrying, no_sites, passed}
+use Rattle.io_depend.specs.Flow.{all_passed, no_carrying}
 use Rattle.io_depend.specs.Sets.{has}
 use Rattle.io_flow.proofs.Dependence.{dependence, differing}
 use Rattle.io_flow.proofs.FlowBodies.{Includes, not_in, or_left, or_right}
@@ -37,17 +37,17 @@ use Rattle.task_ast.specs.declared.core_form.CoreTask.{CoreTask}
 use Rattle.task_ast.specs.declared.tree.Ann.{Ann}
 use Rattle.task_attempts.specs.Attempts.{body_log, exit_log, row_log, statement_log}
 use Rattle.task_attempts.specs.Blocks.{block_end, block_log, block_sealed, stamp_in}
-use Rattle.task_attempts.specs.Boots.{after, task_of}
+use Rattle.task_attempts.specs.Boots.{task_of}
 use Rattle.task_attempts.specs.Calls.{annotation, by_choice, by_record, call_log, issue, issue_anew, issued_with, kept_in, number_of}
 use Rattle.task_attempts.specs.Changes.{put, spent, spent_by, with_issue, with_looks, with_mode, with_record, with_region, with_store}
-use Rattle.task_attempts.specs.Copies.{copy_again, copy_by_class, copy_by_record, copy_log, copy_valued, memory_at, memory_or_ram, moved, put_words, words_at}
+use Rattle.task_attempts.specs.Copies.{copy_again, copy_by_class, copy_by_record, copy_log, copy_valued, memory_at, memory_or_ram, put_words, words_at}
 use Rattle.task_attempts.specs.Costs.{call_steps, copy_steps}
 use Rattle.task_attempts.specs.State.{Here, Log, Record, Rest, Rules, Setting, Valued, arguments, of_block, of_copy, of_reading, range}
 use Rattle.task_attempts.specs.Told.{drop_all, drop_one, logged, look, seal, trap, unless_trap}
-use Rattle.task_attempts.specs.Values.{branch, from_ran, tested, value, values}
+use Rattle.task_attempts.specs.Values.{branch, from_ran, value, values}
 use Rattle.walk_run.specs.Plain.{Ran, chosen, done, plain_done, trapped}
 use Rattle.walk_run.specs.PlainSteps.{condition_steps, end_steps, expr_steps, plain_steps, target_steps}
-use Rattle.walk_run.specs.Store.{Store, fresh, place, pointed, put_word, words_of}
+use Rattle.walk_run.specs.Store.{Store, fresh, pointed, put_word, words_of}
 use Rattle.walk_run.specs.Value.{end_place, target_place, value_of, with_room}
 use Rattle.walk_run.specs.Walk.{move_words}
 use Rattle.walk_run.specs.declared.place.Place.{Place}
@@ -113,7 +113,7 @@ made_acts : (t : CoreTask) (base : Store) (l : Readings) (k : ℕ) (v : Valued) 
 made_acts t base l k v made = subst (OnlyMet (has (all_acts_in t.body) k)) made.meets (all_only_met k made.reading t.body base)
 
 -- only a copy from nonvolatile into volatile words is of class Private
-private_memories : (from to : Memory) → class_of from to ≡ class.Private → from ≢ to
+pub private_memories : (from to : Memory) → class_of from to ≡ class.Private → from ≢ to
 private_memories memory.Fram memory.Fram is = absurd (cc is)
 private_memories memory.Fram memory.ConstFram is = absurd (cc is)
 private_memories memory.Fram memory.Ram is = λ same. cc same
@@ -125,7 +125,7 @@ private_memories memory.Ram memory.ConstFram is = absurd (cc is)
 private_memories memory.Ram memory.Ram is = absurd (cc is)
 
 -- the store that what was valued puts
-abbrev put_of : Valued → Store → Store
+abbrev pub put_of : Valued → Store → Store
 put_of (arguments args) store = store
 put_of (range to from words) store = put_words to words store
 

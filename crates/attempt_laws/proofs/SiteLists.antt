@@ -1,6 +1,6 @@
 -- Lists of sites, and the sites that a run may meet.
-use Rattle.std.proofs.Common.{◌≡◌, ◌≢◌, ℕ, zero, suc, ◌+◌, Bool, true, false, ◌||◌, ◌==◌, cond, List, [], ◌∷◌, ◌++◌, length, Option, Some, None, Result, Ok, Err, refl, sym, ap, subst, ◌∙◌, leb, leb-true, eqb-true, eq-eqb, append-nil, if◌then◌else◌}
-use Rattle.std.specs.Prelude.{⊤, ◌-◌, not, ◌&&◌, slice_get}
+use Rattle.std.proofs.Common.{◌≡◌, ℕ, zero, suc, Bool, true, false, ◌||◌, ◌==◌, List, [], ◌∷◌, ◌++◌, Result, Ok, Err, refl, sym, ap, ◌∙◌}
+use Rattle.std.specs.Prelude.{⊤}
 use Rattle.attempt_laws.specs.Records.{IsOnce, acts_in, all_acts_in, row_acts_in}
 use Rattle.io_depend.specs.Sets.{has}
 use Rattle.io_flow.proofs.FlowBodies.{Includes, not_in}
