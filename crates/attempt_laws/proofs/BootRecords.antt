@@ -77,7 +77,7 @@ module _ (rules : Rules) (numbered : AreNumbered rules.core) where
   attempts_hold (suc n) here hold = attempt_holds (task_of rules.core here.standing.next) (attempts_log rules n) (attempts_hold n) here refl hold
 
   -- a boot, from records that hold
-  boot_holds : (n : ℕ) (s : Standing) → Holds rules.core s → AllHold rules.core (boot_log rules n s)
+  pub boot_holds : (n : ℕ) (s : Standing) → Holds rules.core s → AllHold rules.core (boot_log rules n s)
   unfolding boot_log
   boot_holds n s hold = attempts_hold n (booted rules s) hold
 

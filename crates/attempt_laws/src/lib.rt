@@ -1,6 +1,7 @@
-//! The law of dependence: every record that an attempt follows was made with what its site is valued at now.
+//! Laws of every run over power failures: every record that an attempt follows was made with what its site is valued at
+//! now, and what is committed is what an unbroken run does with the retained readings.
 #![tactic(auto)]
 
 mod laws;
 
-pub use laws::a_record_that_is_followed_agrees;
+pub use laws::{a_record_that_is_followed_agrees, what_is_committed_is_what_an_unbroken_run_does};
