@@ -1,5 +1,5 @@
 -- An attempt whose followed records agree does what the unbroken run does with its readings, up to its commit and behind it.
-use Rattle.std.proofs.Common.{◌≡◌, ◌≢◌, ℕ, zero, suc, ◌+◌, Bool, true, false, List, [], ◌∷◌, ◌++◌, length, take, Option, Some, None, Result, Ok, Err, refl, sym, ap, subst, ◌∙◌, append_assoc, leb, leb-true, if◌then◌else◌}
+use Rattle.std.proofs.Common.{◌≡◌, ◌≢◌, ℕ, zero, suc, ◌+◌, Bool, true, false, List, [], ◌∷◌, ◌++◌, length, take, Option, Some, None, Result, Ok, Err, refl, sym, ap, subst, ◌∙◌, append_assoc, append-nil, leb, leb-true, if◌then◌else◌}
 use Rattle.std.specs.Prelude.{⊤, slice_get}
 use Rattle.task_ast.specs.declared.core_form.CoreExpr.{CoreExpr, end_of-CoreExpr, more_of-CoreExpr}
 use Rattle.task_ast.specs.declared.core_form.CoreTarget.{CoreTarget}
@@ -25,12 +25,14 @@ use Rattle.walk_run.specs.declared.trap.Trap.{Trap}
 use Rattle.walk_run.specs.declared.trap.Trap.TheVariants as cause
 use Rattle.walk_run.specs.declared.place.Place.{Place}
 use Rattle.walk_run.specs.declared.walked.Walked.{Walked}
+use Rattle.walk_run.specs.declared.walked.WalkEnd.TheVariants.{Trapped}
+use Rattle.task_ast.specs.declared.core_form.Core.{Core}
 use Rattle.walk_run.specs.Store.{Store, words_of, put_word}
 use Rattle.walk_run.specs.Value.{value_of, target_place, end_place, with_room}
 use Rattle.walk_run.specs.Plain.{Ran, done, trapped, chosen, plain_done}
 use Rattle.walk_run.specs.PlainSteps.{expr_steps, target_steps, end_steps, condition_steps, plain_steps}
 use Rattle.walk_run.specs.Walk as walk
-use Rattle.walk_run.specs.Walk.{Onward, move_words, on_found, value_walk, branch_walk, each_valued, with_reading, call_walk, end_walk, room_walk, copy_walk, statement_walk, row_walk, body_walk, exit_walk, ends_early, walk_from}
+use Rattle.walk_run.specs.Walk.{ends, Onward, move_words, on_found, value_walk, branch_walk, each_valued, with_reading, call_walk, end_walk, room_walk, copy_walk, statement_walk, row_walk, body_walk, exit_walk, ends_early, walk_from}
 use Rattle.devices.specs.Reading.{reading_in}
 use Rattle.devices.specs.Journal.{JournalEvent, begins, looks, keeps, drops, issues, seals, copies, commits, traps, keep}
 use Rattle.task_attempts.specs.State.{Rules, Setting, Valued, range, Record, of_reading, of_block, of_copy, Here, Followed, Log, Rest, Standing, Logged}
@@ -48,20 +50,31 @@ use Rattle.task_attempts.specs.Journals.{if_reading, reading_at, Running, run_on
 use Rattle.task_attempts.specs.Laws.{AllStay}
 use Rattle.task_attempts.specs.Sound.{RecordsAgree}
 use Rattle.attempt_laws.specs.Records.{Fits}
+use Rattle.attempt_laws.proofs.Ways.{IsSome, Way, committing, trapping, IsOf, reads, more_of, tasks_behind, end_of, of_behind, none_of, reads_event, same_trap}
 use Rattle.attempt_laws.specs.Runs.{counted, commits_in, course_at, course, IsCallAt, IsNoCallAt, Tells, RowTells, AllTell}
 use Rattle.attempt_laws.proofs.MoveLaws.{put_back, put_source}
 use Rattle.attempt_laws.proofs.RecordLaws.{put_of, private_memories}
 
--- some commit, and how many behind the first one
-abbrev pub IsSome : ℕ → Type 0
-IsSome zero = ⊥
-IsSome (suc n) = ⊤
+-- a trap is no commit
+none_committed : (why : Trap) (here : Here) (n : ℕ) → IsSome (commits_in (take n (trap why here))) → ⊥
+none_committed why here zero some = some
+none_committed why here (suc zero) some = some
+none_committed why here (suc (suc n)) some = some
 
-abbrev pub before : ℕ → ℕ
-before zero = zero
-before (suc n) = n
+-- what a trap leaves to read, and how it ends
+trap_reads : (way : Way) (c : Core) (r : Running) (why : Trap) (here : Here) (n : ℕ) → IsOf way (take n (trap why here)) → reads way c r (events_in (take n (trap why here))) ≡ r.held
+trap_reads (committing m more) c r why here n is = absurd (none_committed why here n is)
+trap_reads (trapping as_why) c r why here zero is = absurd is
+trap_reads (trapping as_why) c r why here (suc zero) is = refl
+trap_reads (trapping as_why) c r why here (suc (suc n)) is = refl
 
-module _ (rules : Rules) (t : CoreTask) where
+trap_ends : (way : Way) (c : Core) (why : Trap) (here : Here) (n next : ℕ) (base : Store) → IsOf way (take n (trap why here)) → ends (Trapped why) ≡ course c (end_of way c) next base (take n (trap why here))
+trap_ends (committing m more) c why here n next base is = absurd (none_committed why here n is)
+trap_ends (trapping as_why) c why here zero next base is = absurd is
+trap_ends (trapping as_why) c why here (suc zero) next base is = ap (λ w. ends (Trapped w)) (same_trap why as_why is)
+trap_ends (trapping as_why) c why here (suc (suc n)) next base is = ap (λ w. ends (Trapped w)) (same_trap why as_why is)
+
+module _ (rules : Rules) (t : CoreTask) (way : Way) where
   -- an attempt that runs, with these readings so far
   abbrev pub running : (held : List ℕ) → Running
   running held = record { sites = t.sites; held = held }
@@ -69,31 +82,31 @@ module _ (rules : Rules) (t : CoreTask) where
   -- What is taken of a log, from inside an attempt up to behind its commit: some readings are retained behind those held
   -- here; and with them the run from this store, with as many tasks behind the first as there are commits behind the
   -- first, shows what the log shows, and goes on from there.
-  pub record Walks (next : ℕ) (base store : Store) (log : Log) (on : ℕ → Onward Walked) (m : ℕ) (more : List ℕ) : Type 0 where
+  pub record Walks (next : ℕ) (base store : Store) (log : Log) (on : ℕ → Onward Walked) : Type 0 where
     pub rest : List ℕ
-    pub is : (held : List ℕ) → retained_in rules.core (running held) (events_in log) ≡ held ++ rest
-    pub walks : on (before (commits_in log) + m) store (rest ++ more) ≡ course rules.core (λ next base. walk_from rules.core m next base more) next base log
+    pub is : (held : List ℕ) → reads way rules.core (running held) (events_in log) ≡ held ++ rest
+    pub walks : on (tasks_behind way (commits_in log)) store (rest ++ more_of way) ≡ course rules.core (end_of way rules.core) next base log
 
   -- so it is wherever a log is cut behind a commit, if its records agree
   pub record Runs (next : ℕ) (base store : Store) (log : Log) (on : ℕ → Onward Walked) : Type 0 where
-    pub comes : RecordsAgree log → AllStay base next log → (n m : ℕ) (more : List ℕ) → IsSome (commits_in (take n log)) → Walks next base store (take n log) on m more
+    pub comes : RecordsAgree log → AllStay base next log → (n : ℕ) → IsOf way (take n log) → Walks next base store (take n log) on
 
   abbrev pub Does : Rest → (ℕ → Onward Walked) → Type 0
   Does go on = (here : Here) → Runs here.standing.next here.standing.committed here.store (go here) on
 
-  -- a trap is no commit
-  trap_none : (why : Trap) (here : Here) (n : ℕ) → IsSome (commits_in (take n (trap why here))) → ⊥
-  trap_none why here zero some = some
-  trap_none why here (suc zero) some = some
-  trap_none why here (suc (suc n)) some = some
-
-  trap_runs : (why : Trap) (here : Here) (next : ℕ) (base store : Store) (on : ℕ → Onward Walked) → Runs next base store (trap why here) on
-  trap_runs why here next base store on = record { comes = λ agree stay n m more some. absurd (trap_none why here n some) }
+  trap_runs : (why : Trap) (here : Here) (next : ℕ) (base store : Store) (on : ℕ → Onward Walked) → ((k : ℕ) (rs : List ℕ) → on k store rs ≡ ends (Trapped why)) → Runs next base store (trap why here) on
+  trap_runs why here next base store on halts = record {
+    comes = λ agree stay n some. record {
+      rest = [];
+      is = λ held. trap_reads way rules.core (running held) why here n some ∙ sym (append-nil held);
+      walks = halts (tasks_behind way (commits_in (take n (trap why here)))) (more_of way) ∙ trap_ends way rules.core why here n next base some;
+    };
+  }
 
   -- ---- an event inside an attempt
 
   record Passes (e : JournalEvent) : Type 0 where
-    pub retained : (held : List ℕ) (es : List JournalEvent) → retained_in rules.core (running held) (e ∷ es) ≡ retained_in rules.core (running (held ++ reading_at t.sites e)) es
+    pub inner : IsInner e
     pub counts : (n : ℕ) → counted e n ≡ n
     pub shows : (s : Standing) (w : Walked) → course_at rules.core e s w ≡ w
 
@@ -101,68 +114,68 @@ module _ (rules : Rules) (t : CoreTask) where
   inner_passes (begins task) inner = absurd inner
   inner_passes (commits next) inner = absurd inner
   inner_passes (traps code) inner = absurd inner
-  inner_passes (looks site time) inner = record { retained = λ held es. refl; counts = λ n. refl; shows = λ s w. refl }
-  inner_passes (keeps site v) inner = record { retained = λ held es. refl; counts = λ n. refl; shows = λ s w. refl }
-  inner_passes (drops site) inner = record { retained = λ held es. refl; counts = λ n. refl; shows = λ s w. refl }
-  inner_passes (issues site p args v) inner = record { retained = λ held es. refl; counts = λ n. refl; shows = λ s w. refl }
-  inner_passes (seals site) inner = record { retained = λ held es. refl; counts = λ n. refl; shows = λ s w. refl }
-  inner_passes (copies site from to n) inner = record { retained = λ held es. refl; counts = λ n. refl; shows = λ s w. refl }
+  inner_passes (looks site time) inner = record { inner = tt; counts = λ n. refl; shows = λ s w. refl }
+  inner_passes (keeps site v) inner = record { inner = tt; counts = λ n. refl; shows = λ s w. refl }
+  inner_passes (drops site) inner = record { inner = tt; counts = λ n. refl; shows = λ s w. refl }
+  inner_passes (issues site p args v) inner = record { inner = tt; counts = λ n. refl; shows = λ s w. refl }
+  inner_passes (seals site) inner = record { inner = tt; counts = λ n. refl; shows = λ s w. refl }
+  inner_passes (copies site from to n) inner = record { inner = tt; counts = λ n. refl; shows = λ s w. refl }
 
-  event_walks : (e : JournalEvent) → Passes e → (f : Option Followed) (here : Here) (store after : Store) (log : Log) (vs : List ℕ) (on on' : ℕ → Onward Walked) (n m : ℕ) (more : List ℕ) → reading_at t.sites e ≡ vs
+  event_walks : (e : JournalEvent) → Passes e → (f : Option Followed) (here : Here) (store after : Store) (log : Log) (vs : List ℕ) (on on' : ℕ → Onward Walked) (n : ℕ) → reading_at t.sites e ≡ vs
       → ((k : ℕ) (rest more : List ℕ) → on' k store ((vs ++ rest) ++ more) ≡ on k after (rest ++ more))
-      → (IsSome (commits_in (take n log)) → Walks here.standing.next here.standing.committed after (take n log) on m more)
-      → IsSome (commits_in (take (suc n) (logged e f here ∷ log))) → Walks here.standing.next here.standing.committed store (take (suc n) (logged e f here ∷ log)) on' m more
-  event_walks e passes f here store after log vs on on' n m more reads same behind some = by_rest (behind (subst IsSome (passes.counts (commits_in (take n log))) some))
+      → (IsOf way (take n log) → Walks here.standing.next here.standing.committed after (take n log) on)
+      → IsOf way (take (suc n) (logged e f here ∷ log)) → Walks here.standing.next here.standing.committed store (take (suc n) (logged e f here ∷ log)) on'
+  event_walks e passes f here store after log vs on on' n is_read same behind some = by_rest (behind (of_behind way (logged e f here) (take n log) passes.inner passes.counts some))
     where
-      by_rest : Walks here.standing.next here.standing.committed after (take n log) on m more → Walks here.standing.next here.standing.committed store (logged e f here ∷ take n log) on' m more
+      by_rest : Walks here.standing.next here.standing.committed after (take n log) on → Walks here.standing.next here.standing.committed store (logged e f here ∷ take n log) on'
       by_rest w = record {
         rest = vs ++ w.rest;
         is = λ held.
-            passes.retained held (events_in (take n log))
-            ∙ ap (λ v. retained_in rules.core (running (held ++ v)) (events_in (take n log))) reads
+            reads_event way rules.core (running held) e (events_in (take n log)) passes.inner
+            ∙ ap (λ v. reads way rules.core (running (held ++ v)) (events_in (take n log))) is_read
             ∙ w.is (held ++ vs) ∙ append_assoc held vs w.rest;
         walks =
-            ap (λ k. on' (before k + m) store ((vs ++ w.rest) ++ more)) (passes.counts (commits_in (take n log)))
-            ∙ same (before (commits_in (take n log)) + m) w.rest more
+            ap (λ k. on' (tasks_behind way k) store ((vs ++ w.rest) ++ more_of way)) (passes.counts (commits_in (take n log)))
+            ∙ same (tasks_behind way (commits_in (take n log))) w.rest (more_of way)
             ∙ w.walks
-            ∙ sym (passes.shows here.standing (course rules.core (λ next base. walk_from rules.core m next base more) here.standing.next here.standing.committed (take n log)));
+            ∙ sym (passes.shows here.standing (course rules.core (end_of way rules.core) here.standing.next here.standing.committed (take n log)));
       }
 
   event_at : (e : JournalEvent) → Passes e → (f : Option Followed) (here : Here) (store after : Store) (log : Log) (vs : List ℕ) (on on' : ℕ → Onward Walked) → reading_at t.sites e ≡ vs
       → ((k : ℕ) (rest more : List ℕ) → on' k store ((vs ++ rest) ++ more) ≡ on k after (rest ++ more))
-      → ((n m : ℕ) (more : List ℕ) → IsSome (commits_in (take n log)) → Walks here.standing.next here.standing.committed after (take n log) on m more)
-      → (n m : ℕ) (more : List ℕ) → IsSome (commits_in (take n (logged e f here ∷ log))) → Walks here.standing.next here.standing.committed store (take n (logged e f here ∷ log)) on' m more
-  event_at e passes f here store after log vs on on' reads same behind zero m more some = absurd some
-  event_at e passes f here store after log vs on on' reads same behind (suc n) m more some = event_walks e passes f here store after log vs on on' n m more reads same (behind n m more) some
+      → ((n : ℕ) → IsOf way (take n log) → Walks here.standing.next here.standing.committed after (take n log) on)
+      → (n : ℕ) → IsOf way (take n (logged e f here ∷ log)) → Walks here.standing.next here.standing.committed store (take n (logged e f here ∷ log)) on'
+  event_at e passes f here store after log vs on on' is_read same behind zero some = absurd (none_of way some)
+  event_at e passes f here store after log vs on on' is_read same behind (suc n) some = event_walks e passes f here store after log vs on on' n is_read same (behind n) some
 
   event_does : (e : JournalEvent) → IsInner e → (f : Option Followed) (here : Here) (store after : Store) (log : Log) (vs : List ℕ) (on on' : ℕ → Onward Walked) → reading_at t.sites e ≡ vs
       → ((k : ℕ) (rest more : List ℕ) → on' k store ((vs ++ rest) ++ more) ≡ on k after (rest ++ more))
       → Runs here.standing.next here.standing.committed after log on → Runs here.standing.next here.standing.committed store (logged e f here ∷ log) on'
-  event_does e inner f here store after log vs on on' reads same runs = record {
-    comes = λ agree stay n m more some. event_at e (inner_passes e inner) f here store after log vs on on' reads same (runs.comes agree.1 stay.1) n m more some;
+  event_does e inner f here store after log vs on on' is_read same runs = record {
+    comes = λ agree stay n some. event_at e (inner_passes e inner) f here store after log vs on on' is_read same (runs.comes agree.1 stay.1) n some;
   }
 
   -- an event without a reading, and with the store as it is
   silent_does : (e : JournalEvent) → IsInner e → reading_at t.sites e ≡ [] → (here : Here) (log : Log) (on : ℕ → Onward Walked) → Runs here.standing.next here.standing.committed here.store log on
       → Runs here.standing.next here.standing.committed here.store (logged e None here ∷ log) on
-  silent_does e inner reads here log on runs = event_does e inner None here here.store here.store log [] on on reads (λ k rest more. refl) runs
+  silent_does e inner is_read here log on runs = event_does e inner None here here.store here.store log [] on on is_read (λ k rest more. refl) runs
 
   -- ---- words of attempts and of the run
 
   found_does : {A : Type 0} (r : Result A Trap) (go : A → Rest) (on : A → ℕ → Onward Walked) → ((x : A) → Does (go x) (on x)) → Does (unless_trap r go) (λ k. on_found ends_early r (λ x. on x k))
-  found_does (Ok x) go on does here = record { comes = λ agree stay n m more some. let w = (does x here).comes agree stay n m more some in record { rest = w.rest; is = w.is; walks = w.walks } }
-  found_does (Err why) go on does here = trap_runs why here _ _ _ _
+  found_does (Ok x) go on does here = record { comes = λ agree stay n some. let w = (does x here).comes agree stay n some in record { rest = w.rest; is = w.is; walks = w.walks } }
+  found_does (Err why) go on does here = trap_runs why here _ _ _ _ (λ k rs. refl)
 
   -- the same with what was found known
   found_does_in : {A : Type 0} (r : Result A Trap) (go : A → Rest) (on : A → ℕ → Onward Walked) (here : Here) → ((x : A) → r ≡ Ok x → Runs here.standing.next here.standing.committed here.store (go x here) (on x))
       → Runs here.standing.next here.standing.committed here.store (unless_trap r go here) (λ k. on_found ends_early r (λ x. on x k))
-  found_does_in (Ok x) go on here does = record { comes = λ agree stay n m more some. let w = (does x refl).comes agree stay n m more some in record { rest = w.rest; is = w.is; walks = w.walks } }
-  found_does_in (Err why) go on here does = trap_runs why here _ _ _ _
+  found_does_in (Ok x) go on here does = record { comes = λ agree stay n some. let w = (does x refl).comes agree stay n some in record { rest = w.rest; is = w.is; walks = w.walks } }
+  found_does_in (Err why) go on here does = trap_runs why here _ _ _ _ (λ k rs. refl)
 
   -- the same run, told in another way
   run_as : (next : ℕ) (base store : Store) (log : Log) (on on' : ℕ → Onward Walked) → ((k : ℕ) (rs : List ℕ) → on' k store rs ≡ on k store rs) → Runs next base store log on → Runs next base store log on'
   run_as next base store log on on' same runs = record {
-    comes = λ agree stay n m more some. let w = runs.comes agree stay n m more some in record { rest = w.rest; is = w.is; walks = same (before (commits_in (take n log)) + m) (w.rest ++ more) ∙ w.walks };
+    comes = λ agree stay n some. let w = runs.comes agree stay n some in record { rest = w.rest; is = w.is; walks = same (tasks_behind way (commits_in (take n log))) (w.rest ++ more_of way) ∙ w.walks };
   }
 
   drop_does : (k : ℕ) (go : Rest) (on : ℕ → Onward Walked) → Does go on → Does (drop_one k go) on
@@ -194,8 +207,8 @@ module _ (rules : Rules) (t : CoreTask) where
       run_as _ _ _ _ _ _ (λ k rs. refl) (found_does (value_of c here.store) (λ word. chosen word a b) (λ word k. chosen word (f k) (g k)) (λ word. chosen_does word a b f g yes_does no_does) (spent (condition_steps c) here))
 
   ran_does : (r : Ran) (go : Rest) (on : ℕ → Onward Walked) → Does go on → (here : Here) → Runs here.standing.next here.standing.committed here.store (from_ran r go here) (λ k store rs. walk.from_ran ends_early r (on k) rs)
-  ran_does (done store) go on does here = record { comes = λ agree stay n m more some. let w = (does (with_store store here)).comes agree stay n m more some in record { rest = w.rest; is = w.is; walks = w.walks } }
-  ran_does (trapped why store) go on does here = trap_runs why (with_store store here) _ _ _ _
+  ran_does (done store) go on does here = record { comes = λ agree stay n some. let w = (does (with_store store here)).comes agree stay n some in record { rest = w.rest; is = w.is; walks = w.walks } }
+  ran_does (trapped why store) go on does here = trap_runs why (with_store store here) _ _ _ _ (λ k rs. refl)
 
   plain_does : (s : CoreStmt) (go : Rest) (on on' : ℕ → Onward Walked) → Does go on → ((k : ℕ) (store : Store) (rs : List ℕ) → on' k store rs ≡ walk.from_ran ends_early (plain_done s store) (on k) rs) → Does (plain_log s go) on'
   plain_does s go on on' does same here = run_as _ _ _ _ _ _ (λ k rs. same k here.store rs) (ran_does (plain_done s here.store) go on does (spent (plain_steps s here.store) here))
@@ -239,7 +252,7 @@ module _ (rules : Rules) (t : CoreTask) where
       run_as _ _ _ _ _ _ (λ j rs. refl)
       (found_does (target_place tg here.store) _ (λ at j. each_valued ends_early args (taking (λ r j store. on j (put_word at r store)) j))
       (λ at. args_do k (number_of setting p) args call (λ word after. go (put_into (Some at) word after)) (λ r j store. on j (put_word at r store))
-      (λ word after. record { comes = λ agree stay n m more some. let w = (does (with_store (put_word at word after.store) after)).comes agree stay n m more some in record { rest = w.rest; is = w.is; walks = w.walks } }))
+      (λ word after. record { comes = λ agree stay n some. let w = (does (with_store (put_word at word after.store) after)).comes agree stay n some in record { rest = w.rest; is = w.is; walks = w.walks } }))
       (spent (target_steps tg) (spent (call_steps t k) here)))
 
   -- ---- blocks

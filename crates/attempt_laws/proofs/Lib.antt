@@ -9,3 +9,4 @@ pub mod RecordLaws
 pub mod SiteLists
 pub mod StateLaws
 pub mod TableLaws
+pub mod Ways

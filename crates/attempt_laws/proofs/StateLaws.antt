@@ -5,7 +5,8 @@ use Rattle.std.specs.List.{AllByRecursion}
 use Rattle.task_ast.specs.declared.core_form.CoreTask.{CoreTask}
 use Rattle.task_ast.specs.declared.core_form.Core.{Core}
 use Rattle.task_ast.specs.WellFormed.{IsCoreTask, IsWellFormed}
-use Rattle.walk_run.specs.declared.walked.WalkEnd.TheVariants.{Limit}
+use Rattle.walk_run.specs.declared.trap.Trap.{Trap}
+use Rattle.walk_run.specs.declared.walked.WalkEnd.TheVariants.{Limit, Trapped}
 use Rattle.walk_run.specs.declared.walked.State.{State}
 use Rattle.walk_run.specs.declared.walked.Walked.{Walked}
 use Rattle.walk_run.specs.Store.{Store, declared_store}
@@ -21,9 +22,9 @@ use Rattle.task_attempts.specs.Laws.{Stays, AllStay}
 use Rattle.task_attempts.specs.Sound.{next_in, AreWalked}
 use Rattle.task_attempts.proofs.AttemptLaws.{inside_goes, boot_stays}
 use Rattle.attempt_laws.specs.Records.{AreNumbered, Holds}
-use Rattle.attempt_laws.specs.Runs.{state_in, states_in, all_states, counted, commits_in, all_commits, course_at, course, all_courses, AllTell}
+use Rattle.attempt_laws.specs.Runs.{state_in, states_in, all_states, counted, commits_in, all_commits, course_at, course, all_courses, AllTell, LastTraps, last_trapped}
 use Rattle.attempt_laws.proofs.FewerLaws.{walk_fewer}
-use Rattle.attempt_laws.proofs.BootRuns.{boots_run}
+use Rattle.attempt_laws.proofs.BootRuns.{boots_run, boots_trap}
 use Rattle.attempt_laws.proofs.BootRecords.{none_hold, are_numbered}
 use Rattle.attempt_laws.proofs.TableLaws.{sites_told}
 
@@ -248,3 +249,11 @@ tasks_told c well (suc n) t is = told_there c c.tasks well.tasks n t is
 -- the law, for every well-formed program, all cuts and all looks
 pub commits_are_walked : (c : Core) (world : World) → IsWellFormed c → (cuts times : List ℕ) → AreWalked c (expect (rules_of c world) cuts times) (all_states c (boots (rules_of c world) cuts times))
 commits_are_walked c world well cuts times = are_walked (rules_of c world) (tasks_told c well) (are_numbered c well) cuts times (none_hold c (declared_store c) 1)
+
+-- and of a trap
+pub trap_is_walked : (c : Core) (world : World) → IsWellFormed c → (cuts times : List ℕ) (why : Trap) → LastTraps why (boots (rules_of c world) cuts times)
+    → walk_of c (retained c (expect (rules_of c world) cuts times) ++ last_trapped c (boots (rules_of c world) cuts times)) (all_commits (boots (rules_of c world) cuts times) + 1)
+    ≡ all_courses c (λ next base. ends (Trapped why)) 1 (declared_store c) (boots (rules_of c world) cuts times)
+unfolding walk_of
+trap_is_walked c world well cuts times why traps_last =
+    boots_trap (rules_of c world) (tasks_told c well) (are_numbered c well) cuts (start c times) (none_hold c (declared_store c) 1) why traps_last

@@ -8,10 +8,13 @@ use Rattle.walk_run.specs.declared.walked.State.{State}
 use Rattle.walk_run.specs.declared.walked.Walked.{Walked}
 use Rattle.walk_run.specs.Store.{Store}
 use Rattle.walk_run.specs.Walk.{state_of, with_state, unless_stopped}
-use Rattle.devices.specs.Journal.{JournalEvent, commits}
+use Rattle.walk_run.specs.declared.trap.Trap.{Trap}
+use Rattle.walk_run.specs.Trap.{code_of}
+use Rattle.devices.specs.Journal.{JournalEvent, commits, traps}
+use Rattle.task_attempts.specs.Boots.{events_in}
 use Rattle.task_attempts.specs.State.{Standing, Log}
 use Rattle.task_attempts.specs.Calls.{site_at}
-use Rattle.task_attempts.specs.Journals.{if_reading}
+use Rattle.task_attempts.specs.Journals.{if_reading, idle, trapped_in}
 
 -- the state behind a commit: the next task, and the nonvolatile words then
 abbrev pub state_in : Core → JournalEvent → Standing → List State
@@ -84,3 +87,21 @@ abbrev mutual
 abbrev pub AllTell : List Site → List CoreStmt → Type 0
 AllTell sites [] = ⊤
 AllTell sites (s ∷ rest) = Tells sites s × AllTell sites rest
+
+-- a log ends by a trap with this code
+abbrev pub EndsByTrap : (code : ℕ) → Log → Type 0
+EndsByTrap code [] = ⊥
+EndsByTrap code (l ∷ []) = l.event ≡ traps code
+EndsByTrap code (l ∷ m ∷ log) = EndsByTrap code (m ∷ log)
+
+-- the last boot ends by a trap
+abbrev pub LastTraps : Trap → List Log → Type 0
+LastTraps why [] = ⊥
+LastTraps why (boot ∷ []) = EndsByTrap (code_of why) boot
+LastTraps why (boot ∷ next ∷ boots) = LastTraps why (next ∷ boots)
+
+-- the readings of the attempt that traps in the last boot
+abbrev pub last_trapped : Core → List Log → List ℕ
+last_trapped c [] = []
+last_trapped c (boot ∷ []) = trapped_in c idle (events_in boot)
+last_trapped c (boot ∷ next ∷ boots) = last_trapped c (next ∷ boots)

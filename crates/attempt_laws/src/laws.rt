@@ -1,10 +1,15 @@
 //! What holds of every run over power failures, as the contracts of functions that do nothing.
-ghost use Rattle.std.specs.Prelude.{ℕ, List};
+ghost use Rattle.std.specs.Prelude.{◌≡◌, ◌+◌, ◌++◌, ℕ, List};
 ghost use Rattle.std.specs.List.{AllByRecursion};
 ghost use Rattle.task_ast.specs.WellFormed.{IsWellFormed};
 ghost use Rattle.task_attempts.specs.Boots.{rules_of, boots, expect};
 ghost use Rattle.task_attempts.specs.Sound.{AreWalked, RecordsAgree};
-ghost use Rattle.attempt_laws.specs.Runs.{all_states};
+ghost use Rattle.task_attempts.specs.Journals.{retained};
+ghost use Rattle.walk_run.specs.declared.trap.Trap.{Trap};
+ghost use Rattle.walk_run.specs.declared.walked.WalkEnd.TheVariants.{Trapped};
+ghost use Rattle.walk_run.specs.Store.{declared_store};
+ghost use Rattle.walk_run.specs.Walk.{ends, walk_of};
+ghost use Rattle.attempt_laws.specs.Runs.{LastTraps, all_commits, all_courses, all_states, last_trapped};
 
 use devices::World;
 use task_ast::Core;
@@ -25,4 +30,14 @@ pub fn a_record_that_is_followed_agrees(c: &Core, world: &World)
 pub fn what_is_committed_is_what_an_unbroken_run_does(c: &Core, world: &World)
     requires { IsWellFormed c.now }
     ensures { (cuts times : List ℕ) → AreWalked c.now (expect (rules_of c.now world.now) cuts times) (all_states c.now (boots (rules_of c.now world.now) cuts times)) }
+{}
+
+/// Where the last boot ends by a trap, the unbroken run of one task more that besides is fed the readings of the attempt
+/// that traps shows the states of all commits, and ends by that trap.
+#[tactic(auto, using(crate::proofs::StateLaws::trap_is_walked))]
+pub fn a_trap_is_that_of_the_unbroken_run(c: &Core, world: &World)
+    requires { IsWellFormed c.now }
+    ensures { (cuts times : List ℕ) (why : Trap) → LastTraps why (boots (rules_of c.now world.now) cuts times)
+        → walk_of c.now (retained c.now (expect (rules_of c.now world.now) cuts times) ++ last_trapped c.now (boots (rules_of c.now world.now) cuts times)) (all_commits (boots (rules_of c.now world.now) cuts times) + 1)
+        ≡ all_courses c.now (λ next base. ends (Trapped why)) 1 (declared_store c.now) (boots (rules_of c.now world.now) cuts times) }
 {}

@@ -4,4 +4,7 @@
 
 mod laws;
 
-pub use laws::{a_record_that_is_followed_agrees, what_is_committed_is_what_an_unbroken_run_does};
+pub use laws::{
+    a_record_that_is_followed_agrees, a_trap_is_that_of_the_unbroken_run,
+    what_is_committed_is_what_an_unbroken_run_does,
+};
