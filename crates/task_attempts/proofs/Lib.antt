@@ -1,6 +1,6 @@
 mod AlongLaws
 mod AlongWords
-mod AttemptLaws
+pub mod AttemptLaws
 mod BlockRows
 mod CallRows
 mod CopyRows

@@ -1,0 +1,12 @@
+pub mod AttemptRuns
+pub mod BootRecords
+pub mod BootRuns
+pub mod FewerLaws
+pub mod MoveLaws
+pub mod MovedLaws
+pub mod NumberLaws
+pub mod RecordLaws
+pub mod SiteLists
+pub mod StateLaws
+pub mod TableLaws
+pub mod Ways

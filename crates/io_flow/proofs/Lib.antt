@@ -1,0 +1,7 @@
+pub mod Dependence
+pub mod FlowBodies
+pub mod FlowLaws
+pub mod FlowMeets
+pub mod FlowRuns
+pub mod FlowSites
+pub mod FlowUnion
