@@ -25,7 +25,7 @@ fn words(alloc: Global, words: &[&str]) -> Result<Vec<String>, AllocError> {
 }
 
 // The numbers of the calls that fail.
-fn calls(alloc: Global, numbers: &[u32]) -> Result<Words, NoMemory> {
+pub fn calls(alloc: Global, numbers: &[u32]) -> Result<Words, NoMemory> {
     Words::from_slice(alloc, numbers)
 }
 
@@ -57,10 +57,21 @@ pub fn run_pair(
     world: &[u8],
     fails: &[u32],
 ) -> Result<Ran, NoMemory> {
+    let out = MemSink::make(alloc, 1_000, Words::new(alloc))?;
+    run_into(alloc, line, (first, world), fails, out)
+}
+
+// The same of the files `p` and `w`, into this sink.
+pub fn run_into(
+    alloc: Global,
+    line: &[&str],
+    contents: (&[u8], &[u8]),
+    fails: &[u32],
+    mut out: MemSink,
+) -> Result<Ran, NoMemory> {
     let mut files = MemCabinet::make(alloc, calls(alloc, fails)?);
-    files.put("p", first)?;
-    files.put("w", world)?;
-    let mut out = MemSink::make(alloc, 1_000, Words::new(alloc))?;
+    files.put("p", contents.0)?;
+    files.put("w", contents.1)?;
     let words = words(alloc, line)?;
     let status = ease(alloc, words.as_slice(), &mut files, &mut out);
     Ok(Ran { status, out })

@@ -69,3 +69,8 @@ sent (Err e) old new f0 f1 piece text whole front failed rose steady is = (subst
 pub broke : {A : Type 0} (result : Result A Failed) (old new : Option (List ℕ)) (f0 f1 : ℕ) (text : List ℕ) → IsErr result → BrokeOff old new f0 f1 text → Writes result old new f0 f1 text
 broke (Ok x) old new f0 f1 text failed off = cc
 broke (Err e) old new f0 f1 text failed off = off
+
+-- equal texts are written alike
+pub written_as : {A : Type 0} (result : Result A Failed) (old new : Option (List ℕ)) (f0 f1 : ℕ) (piece text : List ℕ)
+    → Writes result old new f0 f1 piece → piece ≡ text → Writes result old new f0 f1 text
+written_as result old new f0 f1 piece text writes same = subst (Writes result old new f0 f1) same writes

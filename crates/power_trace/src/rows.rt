@@ -1,5 +1,5 @@
 //! The boots of a run: row by row, step by step, each line as soon as it is due.
-ghost use Rattle.std.specs.Prelude.{◌≡◌, ◌+◌, ◌≤◌, IfOk, OnOk};
+ghost use Rattle.std.specs.Prelude.{◌≡◌, ◌+◌, ◌≤◌, Some, IfOk, OnOk};
 ghost use Rattle.devices.specs.World.{steps_of, ticks_of};
 ghost use Rattle.power_trace.specs.Live.{state_of, program_in_live};
 ghost use Rattle.power_trace.specs.Report.{style_of, place_in, event_lines, boots_lines};
@@ -7,11 +7,13 @@ ghost use Rattle.power_trace.specs.Run as spec;
 ghost use Rattle.power_trace.specs.Writing.{Writes};
 ghost use Rattle.word_machine.specs.Runs.{numbered, steps_done, boots, total_steps, end_of, last_ending};
 ghost use Rattle.word_machine.specs.Step.{exec};
+ghost use Rattle.word_isa.specs.declared.image.Image.{Image};
 ghost use Rattle.word_machine.specs.declared.ending.Ending.TheVariants as ending;
+ghost use Rattle.word_machine.specs.declared.stepped.Stepped.TheVariants as told;
 
 use crate::live::Live;
 use crate::report_line::{boot_line, event_line, trap_line};
-use devices::{PowerRow, RunEnd};
+use devices::{Event, PowerRow, RunEnd};
 use ease_base::{Failed, Sink, send_all};
 use word_isa::Image;
 use word_machine::Stepped;
@@ -85,11 +87,29 @@ fn send_told<K: Sink>(
 {
     match told {
         Stepped::Ran(None) | Stepped::Halted => Ok(()),
-        Stepped::Ran(Some(event)) => {
-            send_all(out, event_line(image, brief, step, event).as_slice())
-        }
-        Stepped::Trapped(code) => send_all(out, trap_line(brief, step, code).as_slice()),
+        Stepped::Ran(Some(event)) => send_event(image, brief, step, event, out),
+        Stepped::Trapped(code) => send_trap(brief, step, code, out),
     }
+}
+
+// Writes the line of an event. A line takes 256 bytes of its function's frame, which a step without a line needn't have.
+fn send_event<K: Sink>(
+    image: &Image,
+    brief: bool,
+    step: u32,
+    event: Event,
+    out: &mut K,
+) -> Result<(), Failed>
+    ensures { Writes result (K.taken out.old) (K.taken out.new) (K.faults out.old) (K.faults out.new) (spec.told_text image.now brief step (told.Ran (Some event))) }
+{
+    send_all(out, event_line(image, brief, step, event).as_slice())
+}
+
+// Writes the line of a trap.
+fn send_trap<K: Sink>(brief: bool, step: u32, code: u32, out: &mut K) -> Result<(), Failed>
+    ensures { (image : Image) → Writes result (K.taken out.old) (K.taken out.new) (K.faults out.old) (K.faults out.new) (spec.told_text image brief step (told.Trapped code)) }
+{
+    send_all(out, trap_line(brief, step, code).as_slice())
 }
 
 // The end that a step's answer tells.
