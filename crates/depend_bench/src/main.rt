@@ -2,7 +2,7 @@
 //! counted: `FILE TIMES`. It prints the pairs of a site and a later one that depends on it. bench/depend calls it.
 #![tactic(auto)]
 
-ghost use Rattle.std.specs.Prelude.{IfSome};
+ghost use Rattle.std.specs.Prelude.{IfSome, Contains};
 ghost use Rattle.task_ast.specs.WellFormed.{IsWellFormed};
 
 use ease_base::{Cabinet, FileCabinet, NoMemory};
@@ -18,6 +18,9 @@ use task_text::read_program;
 
 /// The most bytes of a source.
 const SOURCE_LIMIT: usize = 65_536;
+
+/// One more than the most sites of a task.
+const BEHIND_THE_LAST_SITE: u32 = 129;
 
 fn main(rt: HostRuntime) -> ExitCode {
     let Some((name, times)) = request(&rt) else {
@@ -65,36 +68,42 @@ fn worked(alloc: Global, core: &Core, times: u32) -> Result<u64, NoMemory>
     Ok(found)
 }
 
-// The pairs of a site and a later one that depends on it, of all tasks.
+// The pairs of all tasks.
 fn pairs(alloc: Global, core: &Core) -> Result<u64, NoMemory>
     requires { IsWellFormed core.now }
 {
     let mut found = 0u64;
     for number in 0..core.tasks.len() {
         if let Some(task) = core.tasks.get(number) {
-            let d = depend(alloc, task, core)?;
-            let regions = split(alloc, task, core, &d)?;
-            found = found.wrapping_add(pairs_of(&d, task));
-            let _regions = regions.count();
+            found = found.wrapping_add(pairs_in(alloc, core, task)?);
         }
     }
     Ok(found)
 }
 
-// The pairs of one task.
-fn pairs_of(d: &Depends, task: &CoreTask) -> u64 {
-    let sites = task.sites.len().min(128) as u32;
+// The pairs of one task, whose regions are worked out too.
+fn pairs_in(alloc: Global, core: &Core, task: &CoreTask) -> Result<u64, NoMemory>
+    requires well_formed { IsWellFormed core.now }
+    requires task { Contains core.now.tasks task.now }
+{
+    let d = depend(alloc, task, core)?;
+    let _regions = split(alloc, task, core, &d)?;
+    Ok(pairs_of(&d))
+}
+
+// The pairs of a site and a later one that depends on it.
+fn pairs_of(d: &Depends) -> u64 {
     let mut found = 0u64;
-    for site in 1..sites + 1 {
-        found = found.wrapping_add(dependents_of(d, site, sites));
+    for site in 1..BEHIND_THE_LAST_SITE {
+        found = found.wrapping_add(dependents_of(d, site));
     }
     found
 }
 
-// How many of the sites depend on one.
-fn dependents_of(d: &Depends, site: u32, sites: u32) -> u64 {
+// How many sites depend on one.
+fn dependents_of(d: &Depends, site: u32) -> u64 {
     let mut found = 0u64;
-    for k in 1..sites + 1 {
+    for k in 1..BEHIND_THE_LAST_SITE {
         if d.later(site, k) {
             found = found.wrapping_add(1);
         }
