@@ -1,0 +1,8 @@
+//! The plan of a program: the acts by which each of its tasks, and each boot, keeps the rules over power failures.
+#![tactic(auto)]
+
+mod act;
+mod parts;
+
+pub use act::{Act, Leg};
+pub use parts::Plan;
