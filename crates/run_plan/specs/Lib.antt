@@ -1,2 +1,5 @@
 pub mod Rows
 pub mod Acts
+pub mod PlanOf
+pub mod PlanRows
+pub mod Told

@@ -2,7 +2,12 @@
 #![tactic(auto)]
 
 mod act;
+mod copies;
 mod parts;
+mod program;
+mod sites;
+mod statements;
 
 pub use act::{Act, Leg};
 pub use parts::Plan;
+pub use program::plan;
