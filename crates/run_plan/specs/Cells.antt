@@ -136,7 +136,15 @@ no_frame = record { mode = None; target = None; args = None; time = None; word =
 -- cells that hold nothing: no epoch is 0
 abbrev pub no_cells : Cells
 no_cells = record {
-  lock = λ _. 0; flag = λ _. 0; value = λ _. 0; stamp = λ _. 0; class = λ _. None; to = λ _. None; from = λ _. None; length = λ _. 0; kept = λ _. 0;
+  lock = λ _. 0;
+  flag = λ _. 0;
+  value = λ _. 0;
+  stamp = λ _. 0;
+  class = λ _. None;
+  to = λ _. None;
+  from = λ _. None;
+  length = λ _. 0;
+  kept = λ _. 0;
 }
 
 -- the words of an array that a failure leaves: volatile arrays have none until the next beginning
@@ -172,5 +180,12 @@ first_state c scheme looks =
     let areas = first_areas scheme words in
     record {
       store = record { words = joined c.arrays areas.0 words; pointers = unset c.pointers };
-      aside = areas.1; cells = no_cells; epoch = 1; task = 1; bank = 0; frame = no_frame; looks = looks; issued = λ _. 0;
+      aside = areas.1;
+      cells = no_cells;
+      epoch = 1;
+      task = 1;
+      bank = 0;
+      frame = no_frame;
+      looks = looks;
+      issued = λ _. 0;
     }

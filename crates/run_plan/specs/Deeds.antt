@@ -38,7 +38,7 @@ use Rattle.run_plan.specs.declared.act.Leg.{Leg}
 use Rattle.run_plan.specs.declared.act.Leg.TheVariants.{Across, ToKept, FromKept}
 use Rattle.run_plan.specs.declared.act.Act.{Act}
 use Rattle.run_plan.specs.declared.act.Act.TheVariants as act
-use Rattle.run_plan.specs.Cells.{CopyValued, Frame, State, CellWrite, puts_lock, puts_flag, puts_value, puts_stamp, puts_class, puts_to, puts_from, puts_length, puts_state, no_frame}
+use Rattle.run_plan.specs.Cells.{CopyValued, State, CellWrite, puts_lock, puts_flag, puts_value, puts_stamp, puts_class, puts_to, puts_from, puts_length, puts_state, no_frame}
 use Rattle.run_plan.specs.Small.{Doing, Atom, Way, ahead, first_way, second_way, third_way, Done, does, fails, stuck, silent, showing, writing, have, unless_fails, same, sets_frame, one, silently, shown_last, with_volatile, lock_holds, flag_holds, core_of}
 use Rattle.run_plan.specs.Words.{first_places, home_places, save_writes, restore_writes, home_writes, move_writes, put_writes, keep_writes, kept_at, recorded_words}
 use Rattle.run_plan.specs.Finding.{statement_of}

@@ -1,6 +1,5 @@
 -- Small steps of acts: each writes one cell, or shows an event, or both; and an act's end, which does neither.
 use Rattle.std.specs.Prelude.{ℕ, ◌+◌, ◌==◌, Bool, List, [], ◌∷◌, map, drop, Option, Some, None, Result, Ok, Err}
-use Rattle.task_ast.specs.declared.core_form.CoreTask.{CoreTask}
 use Rattle.task_ast.specs.declared.core_form.Core.{Core}
 use Rattle.walk_run.specs.declared.trap.Trap.{Trap}
 use Rattle.walk_run.specs.Store.{Store}
