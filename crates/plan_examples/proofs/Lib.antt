@@ -1,0 +1,5 @@
+mod CallRuns
+mod Outcomes
+mod PlanExamples
+mod Programs
+mod StoreRuns

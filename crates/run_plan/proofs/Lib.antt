@@ -1,0 +1,4 @@
+mod SiteLemmas
+mod PlanLemmas
+mod ToldLemmas
+mod ProgramLemmas

@@ -1,0 +1,14 @@
+pub mod Acts
+pub mod Cells
+pub mod Deeds
+pub mod Finding
+pub mod PlanOf
+pub mod PlanRows
+pub mod Rows
+pub mod RunRows
+pub mod Runs
+pub mod Small
+pub mod Sound
+pub mod Told
+pub mod Weights
+pub mod Words
