@@ -114,6 +114,47 @@ CASES = [
         "samples = 10 12 14 16 18 20 22 24 / mean = 51 / sent = 1"),
 ]  # fmt: skip
 
+SUMS = (
+    "peripheral temp 0; peripheral radio 1; nv word sum; nv word out[2]; word v; word b[2] = {5, 6}; word i; task t { "
+    "v = IO(temp, SINGLE); IO_BLOCK(SINGLE) { IO(radio, ALWAYS, v); } DMA(out, b, 2); "
+    "for (i = 0; i < 2; i++) { sum = sum + v; } STOP; }"
+)
+
+# The steps that are allowed to the events of a boot of SUMS, each sum once.
+ALLOWED = {"undo": [244, 376, 440, 560, 624, 848, 1128], "bank": [212, 344, 408, 528, 592, 780, 1060]}
+
+NAMES = (
+    "peripheral temp 0; peripheral radio 1; nv word x; nv word y; nv word a[4]; nv word c[4]; word v; word u; word b[4]; word i; "
+    "word *p; task t { %s STOP; }"
+)
+
+# What depends on each I/O site of a task, where something does.
+FORCES = [
+    ("v = IO(temp, ALWAYS); IO(radio, SINGLE, v);", {1: [2]}),
+    ("v = IO(temp, ALWAYS); if (v) { IO(radio, SINGLE, 1); } else { IO(radio, SINGLE, 2); } IO(radio, SINGLE, 3);", {1: [2, 3]}),
+    ("v = IO(temp, ALWAYS); for (i = 0; i < 3; i++) { x = y; y = v; } IO(radio, SINGLE, x);", {1: [2]}),
+    ("v = IO(temp, ALWAYS); p = &a[0]; p[1] = v; IO(radio, SINGLE, a[0]);", {1: [2]}),
+    ("v = IO(temp, ALWAYS); p = &a[v]; IO(radio, SINGLE, p[0]);", {1: [2]}),
+    ("v = IO(temp, ALWAYS); p = &a[0]; a[3] = v; IO(radio, SINGLE, p[1]);", {1: [2]}),
+    ("v = IO(temp, ALWAYS); p = &a[v]; p[0] = IO(temp, SINGLE); IO(radio, SINGLE, a[1]);", {1: [3], 2: [3]}),
+    ("b[0] = IO(temp, ALWAYS); DMA(a, b, 2); IO(radio, SINGLE, a[1]);", {1: [2, 3]}),
+    ("v = IO(temp, ALWAYS); DMA(a, b, v); IO(radio, SINGLE, a[1]);", {1: [2, 3]}),
+    ("v = IO(temp, ALWAYS); DMA(&a[v], b, 1); DMA(b, &c[v], 1); IO(radio, SINGLE, b[1]);", {1: [2, 3, 4]}),
+    ("v = IO(temp, ALWAYS); IO_BLOCK(SINGLE) { u = IO(temp, SINGLE); IO(radio, SINGLE, v); } v = 1;", {1: [2, 4]}),
+    ("IO_BLOCK(SINGLE) { u = IO(temp, SINGLE); IO(radio, SINGLE, u); } v = u;", {2: [3]}),
+    ("v = IO(temp, ALWAYS); v = 0; IO(radio, SINGLE, v);", {1: [2]}),
+    ("if (x) { v = IO(temp, ALWAYS); } else { IO(radio, SINGLE, v); } IO(radio, SINGLE, v);", {1: [3]}),
+    ("for (i = 0; i < 2; i++) { IO(radio, SINGLE, v); v = IO(temp, SINGLE); }", {2: [3]}),
+    ("v = IO(temp, ALWAYS); if (v) { x = 1; } IO(radio, SINGLE, x);", {1: [2]}),
+]
+
+# What each region of a task writes first.
+FIRSTS = [
+    ("x = 1; DMA(a, b, 4); y = 2; x = 3; DMA(c, a, 4); a[0] = 4;", ["x", "a y", "c"]),
+    ("p = &a[0]; p[0] = 1; v = 2; DMA(b, a, 4); y = IO(temp, SINGLE); x = 1;", ["a", "x y"]),
+    ("for (i = 0; i < 3; i++) { x = i; } p = &c[0]; DMA(p, b, 1);", ["x", "c"]),
+]
+
 WORLD = "[[power]]\non = 100\n[readings]\nradio = [1]\n"
 TWICE = "[[power]]\non = 5\n[[power]]\non = 100\n[readings]\nradio = [1]\n"
 SHORT = "0 boot 1 / 1 begin 1 / 2 look 1 1 / 3 drop 1 / 4 issue 1 radio 7 = 1 / 5 seal 1 / 6 commit 0 / 7 end halted"

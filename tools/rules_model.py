@@ -15,13 +15,14 @@ import random
 import sys
 from pathlib import Path
 
-from rules_audit import audit
-from rules_cases import AUDITED, CASES, SEND, STATION, Case
-from rules_core import Checked, checked
-from rules_journal import Given, journal
 from rules_attempts import Computer
+from rules_audit import Audit, audit
+from rules_cases import ALLOWED, AUDITED, CASES, FIRSTS, FORCES, NAMES, SEND, STATION, SUMS, Case
+from rules_core import Checked, checked
+from rules_flow import account
+from rules_journal import Given, journal
 from rules_judge import judge
-from rules_report import brief_text
+from rules_report import brief_text, read_report
 from rules_world import Row, World, read_world
 
 
@@ -58,6 +59,32 @@ def failing_cases() -> list[str]:
     return found
 
 
+def failing_accounts() -> list[str]:
+    found = []
+    for body, wanted in FORCES:
+        program = checked((NAMES % body).encode())
+        forces = {site: later for site, later in account(program, program.tasks[0]).forces.items() if later}
+        if forces != wanted:
+            found.append(f"{body}: forces {forces} for {wanted}")
+    for body, wanted in FIRSTS:
+        program = checked((NAMES % body).encode())
+        firsts = [" ".join(sorted(names)) for names in account(program, program.tasks[0]).firsts]
+        if firsts != wanted:
+            found.append(f"{body}: first {firsts} for {wanted}")
+    return found
+
+
+def failing_sums() -> list[str]:
+    found, program, world = [], checked(SUMS.encode()), World([Row(2000)], {}, [])
+    for scheme, wanted in ALLOWED.items():
+        followed = Audit(program, world, read_report(journal(program, world, scheme, random.Random(1))), scheme)
+        followed.run()
+        sums = sorted({allowed for _, _, allowed in followed.boots[0].events})
+        if sums != wanted:
+            found.append(f"steps allowed under {scheme}: {sums} for {wanted}")
+    return found
+
+
 def station_runs() -> list[str]:
     """The station under failures: what it ends with, and that the model allows its own journals."""
     found = []
@@ -74,11 +101,12 @@ def station_runs() -> list[str]:
 
 
 def self_test() -> int:
-    found = failing_cases() + station_runs()
+    found = failing_cases() + failing_accounts() + failing_sums() + station_runs()
     for fault in found:
         print(f"rules: {fault}", file=sys.stderr)
     if not found:
-        print(f"rules: {len(CASES)} journals and {len(AUDITED)} reports as worked out by hand, 40 runs of the station")
+        counts = f"{len(CASES)} journals, {len(AUDITED)} reports and {len(FORCES) + len(FIRSTS)} tasks"
+        print(f"rules: {counts} as worked out by hand, 40 runs of the station")
     return bool(found)
 
 
