@@ -11,7 +11,7 @@ from typing import NamedTuple, Union
 from model import Run, Trap
 from model_text import Ann, End
 from rules_core import Branch, Call, Checked, CheckedTask, Copy, Leave, Loop, Part, Scope
-from rules_flow import Account, account
+from rules_flow import Account
 
 OWN, KEEP, FORCE = "own", "keep", "force"
 BOOT, REGION, BEGINNING, WORD = 64, 16, 64, 12
@@ -78,7 +78,6 @@ class Computer:
     def __init__(self, checked: Checked, readings: dict[str, list[int]], scheme: str = "undo") -> None:
         self.checked, self.scheme = checked, scheme
         self.readings = readings
-        self.accounts: list[Account] = [account(checked, task) for task in checked.tasks]
         self.run = Run(checked.program, [])
         self.committed = self.nonvolatile()
         self.next = 1
@@ -111,7 +110,7 @@ class Computer:
     def begin_boot(self) -> None:
         self.allowed = BOOT
         if self.scheme == "undo":
-            firsts = self.accounts[self.next - 1].firsts
+            firsts = self.checked.accounts[self.next - 1].firsts
             saved = sum(map(self.words, firsts[: self.furthest + 2]))
             self.allowed += REGION * len(firsts) + WORD * saved
 
@@ -132,7 +131,7 @@ class Attempt:
     def __init__(self, computer: Computer, watcher: Watcher) -> None:
         self.computer, self.watcher = computer, watcher
         self.task: CheckedTask = computer.checked.tasks[computer.next - 1]
-        self.account: Account = computer.accounts[computer.next - 1]
+        self.account: Account = computer.checked.accounts[computer.next - 1]
         self.records = computer.records
         self.run = computer.run
         self.mode = OWN

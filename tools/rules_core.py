@@ -7,11 +7,14 @@ rules_flow.py, what an attempt does in rules_attempts.py.
 from __future__ import annotations
 
 from collections.abc import Iterator
-from typing import NamedTuple, Union
+from typing import TYPE_CHECKING, NamedTuple, Union
 
 from model import check, has_sites
 from model_text import Ann, Choose, Expr, Name, Place, Program, Target, read_program
 from model_text import Assign, Block, Dma, End, Exit, For, If, Io, Next, Point, Stmt, Stop, Task
+
+if TYPE_CHECKING:
+    from rules_flow import Account
 
 NODE, THROUGH, ASSIGNMENT, CHOICE, LOOP, TURN = 12, 12, 16, 16, 24, 24
 
@@ -97,13 +100,14 @@ class Checked(NamedTuple):
     pointers: list[str]
     peripherals: dict[str, int]
     tasks: list[CheckedTask]
+    accounts: list[Account]  # of the tasks, which rules_flow.py puts here
 
     def words(self, kind: str) -> int:
         return sum(length for name, length in self.lengths.items() if self.kinds[name] == kind)
 
 
-def checked(source: bytes) -> Checked:
-    """The checked form of a source; Refused or NoTree where it has none."""
+def checked_form(source: bytes) -> Checked:
+    """The checked form of a source, without its accounts; Refused or NoTree where it has none."""
     program = read_program(source)
     check(program)
     arrays = [decl for decl in program.decls if decl.has_words]
@@ -116,6 +120,7 @@ def checked(source: bytes) -> Checked:
         pointers,
         {decl.name.text: decl.number for decl in program.decls if decl.kind == "peripheral"},
         [Numbering(set(pointers), numbers).task(task) for task in program.tasks],
+        [],
     )
 
 

@@ -9,7 +9,7 @@ from collections.abc import Iterator
 from typing import NamedTuple
 
 from model_text import Assign, Dma, End, Expr, Name, Point
-from rules_core import Branch, Call, Checked, CheckedTask, Copy, Loop, Part, Plain, Scope
+from rules_core import Branch, Call, Checked, CheckedTask, Copy, Loop, Part, Plain, Scope, checked_form
 
 
 class Account(NamedTuple):
@@ -21,6 +21,13 @@ class Account(NamedTuple):
     firsts: list[set[str]]  # what each region writes first
     to: dict[int, set[str]]  # the arrays in which a copy may end
     source: dict[int, set[str]]
+
+
+def checked(source: bytes) -> Checked:
+    """The checked form of a source with its accounts; Refused or NoTree where it has none."""
+    form = checked_form(source)
+    form.accounts.extend(account(form, task) for task in form.tasks)
+    return form
 
 
 def account(checked: Checked, task: CheckedTask) -> Account:

@@ -1,9 +1,10 @@
-"""Journals that the rules of attempts give: for given cuts and looks, or for a world and a make-believe machine of random steps."""
+"""Journals that the rules of attempts give: for given cuts and looks, or for a world on a make-believe machine of random steps."""
 
 from __future__ import annotations
 
 import random
 from collections.abc import Iterable
+from typing import NamedTuple
 
 from rules_attempts import Computer, Cut, Event, Watcher
 from rules_core import Checked
@@ -42,10 +43,19 @@ def expect(checked: Checked, readings: dict[str, list[int]], cuts: Iterable[int]
     return boots
 
 
-class Machine(Watcher):
-    """Spends random steps on each event, never more than are allowed, and fails when the world's row ends."""
+class Pace(NamedTuple):
+    """How many hundredths of the steps that its parts are allowed an event takes, and how many steps another event of them."""
 
-    def __init__(self, checked: Checked, world: World, scheme: str, rng: random.Random) -> None:
+    least: int = 20
+    most: int = 50
+    gap: int = 3
+
+
+class Machine(Watcher):
+    """Spends random steps on each event, never more than are allowed at the usual pace, and fails when the world's row ends."""
+
+    def __init__(self, checked: Checked, world: World, scheme: str, rng: random.Random, pace: Pace) -> None:
+        self.pace = pace
         self.computer = Computer(checked, world.readings, scheme)
         self.world, self.rng = world, rng
         self.lines: list[Line] = []
@@ -67,8 +77,8 @@ class Machine(Watcher):
 
     def come(self, allowed: int) -> int:
         """The step of the next event: a share of what its parts are allowed, and a few steps behind another event of the part."""
-        share = (allowed - self.spent) * self.rng.randint(20, 50) // 100
-        step = self.step + max(share, self.rng.randint(1, 3))
+        share = (allowed - self.spent) * self.rng.randint(self.pace.least, self.pace.most) // 100
+        step = self.step + max(share, self.rng.randint(self.pace.gap - 2, self.pace.gap))
         if step > self.last:
             raise Cut
         self.step, self.spent = step, allowed
@@ -83,6 +93,6 @@ class Machine(Watcher):
         return time
 
 
-def journal(checked: Checked, world: World, scheme: str, rng: random.Random) -> bytes:
+def journal(checked: Checked, world: World, scheme: str, rng: random.Random, pace: Pace = Pace()) -> bytes:
     """The report of a journal that the rules allow."""
-    return report_text(Machine(checked, world, scheme, rng).run())
+    return report_text(Machine(checked, world, scheme, rng, pace).run())

@@ -18,8 +18,8 @@ from pathlib import Path
 from rules_attempts import Computer
 from rules_audit import Audit, audit
 from rules_cases import ALLOWED, AUDITED, CASES, FIRSTS, FORCES, NAMES, SEND, STATION, SUMS, Case
-from rules_core import Checked, checked
-from rules_flow import account
+from rules_core import Checked
+from rules_flow import checked
 from rules_journal import Given, journal
 from rules_judge import judge
 from rules_report import brief_text, read_report
@@ -63,12 +63,12 @@ def failing_accounts() -> list[str]:
     found = []
     for body, wanted in FORCES:
         program = checked((NAMES % body).encode())
-        forces = {site: later for site, later in account(program, program.tasks[0]).forces.items() if later}
+        forces = {site: later for site, later in program.accounts[0].forces.items() if later}
         if forces != wanted:
             found.append(f"{body}: forces {forces} for {wanted}")
     for body, wanted in FIRSTS:
         program = checked((NAMES % body).encode())
-        firsts = [" ".join(sorted(names)) for names in account(program, program.tasks[0]).firsts]
+        firsts = [" ".join(sorted(names)) for names in program.accounts[0].firsts]
         if firsts != wanted:
             found.append(f"{body}: first {firsts} for {wanted}")
     return found
