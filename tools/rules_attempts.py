@@ -85,6 +85,7 @@ class Computer:
         self.issues: dict[str, int] = {}
         self.furthest = 0  # the greatest region whose copy gave an event in this instance
         self.allowed = 0
+        self.attempt: Attempt | None = None  # the one that runs
         self.disagreements: list[str] = []
 
     def nonvolatile(self) -> dict[str, list[int]]:
@@ -135,6 +136,7 @@ class Attempt:
         self.records = computer.records
         self.run = computer.run
         self.mode = OWN
+        computer.attempt = self
 
     def allow(self, steps: int) -> None:
         self.computer.allowed += steps

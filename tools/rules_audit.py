@@ -11,7 +11,11 @@ from rules_world import World
 
 
 class Illegal(Exception):
-    """No journal that the rules allow begins with the lines up to this one."""
+    """No journal that the rules allow begins with the lines up to this one, in whose place the rules may give an event."""
+
+    def __init__(self, line: int, wanted: Event | None = None) -> None:
+        super().__init__(line)
+        self.line, self.wanted = line, wanted
 
 
 class Taken(NamedTuple):
@@ -41,8 +45,8 @@ class Audit(Watcher):
     def ahead(self) -> Line:
         return self.lines[self.at]
 
-    def refuse(self) -> Illegal:
-        return Illegal(self.at + 1)
+    def refuse(self, wanted: Event | None = None) -> Illegal:
+        return Illegal(self.at + 1, wanted)
 
     def run(self) -> None:
         while self.ahead.event[0] != "end":
@@ -66,14 +70,14 @@ class Audit(Watcher):
     def event(self, event: Event, allowed: int) -> None:
         line = self.come(allowed)
         if line.event != event:
-            raise self.refuse()
+            raise self.refuse(event)
         self.take(line, allowed)
 
     def look(self, site: int, allowed: int) -> int:
         line = self.come(allowed)
         time = line.step - 1 + self.off
         if line.event != ("look", site, time):
-            raise self.refuse()
+            raise self.refuse(("look", site, time))
         self.take(line, allowed)
         return time
 
