@@ -112,15 +112,25 @@ class Target(NamedTuple):
     index: Expr | None
 
 
+class Ann(NamedTuple):
+    """An annotation; the ticks are those of a `TIMELY`."""
+
+    kind: str
+    ticks: int = 0
+
+
 class Io(NamedTuple):
     at: Place
     target: Target | None
     name: Name
     args: list[Expr]
+    ann: Ann
 
 
 class Block(NamedTuple):
+    at: Place
     body: list[Stmt]
+    ann: Ann
 
 
 class End(NamedTuple):
@@ -320,9 +330,9 @@ class Parser:
             return self.call(None)
         if self.accepts("IO_BLOCK"):
             self.expect("(")
-            self.annotation()
+            ann = self.annotation()
             self.expect(")")
-            return Block(self.braces(nesting))
+            return Block(self.tokens[start].at, self.braces(nesting), ann)
         if self.ahead.text == "DMA":
             return self.copy()
         if self.accepts("for"):
@@ -362,20 +372,23 @@ class Parser:
         self.expect("IO", "(")
         name = self.name()
         self.expect(",")
-        self.annotation()
+        ann = self.annotation()
         args = []
         while self.accepts(","):
             args.append(self.expr())
         self.expect(")", ";")
-        return Io(at, target, name, args)
+        return Io(at, target, name, args, ann)
 
-    def annotation(self) -> None:
+    def annotation(self) -> Ann:
         if self.accepts("TIMELY"):
             self.expect("(")
-            self.take("number")
+            ticks = self.take("number").value
             self.expect(")")
-        elif not self.accepts("SINGLE"):
-            self.expect("ALWAYS")
+            return Ann("TIMELY", ticks)
+        if self.accepts("SINGLE"):
+            return Ann("SINGLE")
+        self.expect("ALWAYS")
+        return Ann("ALWAYS")
 
     def copy(self) -> Dma:
         at = self.ahead.at
