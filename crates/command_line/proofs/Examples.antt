@@ -2,7 +2,7 @@
 use Rattle.std.proofs.Common.{◌≡◌, true, false, [], ◌∷◌, refl, codes}
 use Rattle.std.specs.Fmt.{digits}
 use Rattle.std.specs.Prelude.{Some, None}
-use Rattle.command_line.specs.Form.{walk, run, walk_in, run_in, form_of}
+use Rattle.command_line.specs.Form.{walk, run, sites, walk_in, run_in, sites_in, form_of}
 use Rattle.command_line.specs.Line.{line_from, value_from}
 
 -- options stand anywhere before `--`, and behind it every word is a place
@@ -29,3 +29,15 @@ no_leading_zero = refl
 no_help : form_of (codes "--help" ∷ []) ≡ None
 unfolding form_of line_from value_from walk_in
 no_help = refl
+
+sites_of_a_program : form_of (codes "sites" ∷ codes "--" ∷ codes "--brief" ∷ []) ≡ Some (sites (codes "--brief"))
+unfolding form_of line_from value_from sites_in
+sites_of_a_program = refl
+
+sites_has_no_option : form_of (codes "sites" ∷ codes "a" ∷ codes "--brief" ∷ []) ≡ None
+unfolding form_of line_from value_from sites_in
+sites_has_no_option = refl
+
+sites_has_one_file : form_of (codes "sites" ∷ codes "a" ∷ codes "b" ∷ []) ≡ None
+unfolding form_of line_from value_from sites_in
+sites_has_one_file = refl

@@ -10,6 +10,7 @@ use Rattle.command_line.specs.declared.command.Command.TheVariants as command
 pub data Form : Type 0 where
   walk : (program : Text) → (tasks : ℕ) → (world : Option Text) → Form
   run : (image world : Text) → (brief : Bool) → Form
+  sites : (program : Text) → Form
 
 infixl 10 ◌>>=◌
 abbrev pub ◌>>=◌ : {A B : Type 0} → Option A → (A → Option B) → Option B
@@ -36,11 +37,19 @@ run_in args brief = if nat_lt 2 (length args) then None else do
   world ← slice_get args 1
   Some (run image world brief)
 
+-- `sites PROGRAM`
+unfoldable pub sites_in : List Text → Option Form
+sites_in args = if nat_lt 1 (length args) then None else do
+  program ← slice_get args 0
+  Some (sites program)
+
 -- the form of a command with its options; an option with a command that hasn't it is none
 abbrev pub asked_by : Text → List Text → Bool → Option Text → Option Form
 asked_by command args brief scheme =
     if bytes_eq command (codes "walk") then (if brief || is_some scheme then None else walk_in args)
-    else if bytes_eq command (codes "run") then (if is_some scheme then None else run_in args brief) else None
+    else if bytes_eq command (codes "run") then (if is_some scheme then None else run_in args brief)
+    else if bytes_eq command (codes "sites") then (if is_some scheme || brief then None else sites_in args)
+    else None
 
 -- the form of a line, by its first positional
 abbrev pub form_in : Line → Option Form
@@ -54,8 +63,10 @@ form_of words = line_of words >>= form_in
 abbrev pub seen : Command → Form
 seen (command.Walk program tasks world) = walk program.now tasks (option_map (λ s. s.now) world)
 seen (command.Run image world brief) = run image.now world.now brief
+seen (command.Sites program) = sites program.now
 
 -- a walk is of at most 1,000 tasks
 abbrev pub HasFewTasks : Command → Type 0
 HasFewTasks (command.Walk program tasks world) = tasks ≤ 1000
 HasFewTasks (command.Run image world brief) = Unit {0}
+HasFewTasks (command.Sites program) = Unit {0}

@@ -23,6 +23,10 @@ pub enum Command<'a> {
         world: &'a str,
         brief: bool,
     },
+    /// `sites PROGRAM`.
+    Sites {
+        program: &'a str,
+    },
 }
 
 /// What the words of a command line ask for; None exactly where they are none of the forms. A walk is of at most 1,000 tasks.
@@ -66,6 +70,12 @@ fn asked_by<'a>(command: &str, words: &Words<'a>) -> Option<Command<'a>>
         }
         return run_in(args, words.brief);
     }
+    if command == "sites" {
+        if words.scheme.is_some() || words.brief {
+            return None;
+        }
+        return sites_in(args);
+    }
     None
 }
 
@@ -101,6 +111,18 @@ fn run_in<'a>(args: &[&'a str], brief: bool) -> Option<Command<'a>>
         world,
         brief,
     })
+}
+
+#[tactic(auto, unfolding(crate::specs::Form::sites_in))]
+fn sites_in<'a>(args: &[&'a str]) -> Option<Command<'a>>
+    ensures form { option_map spec.seen result ≡ spec.sites_in (map (λ s. s.now) args.now) }
+    ensures few { IfSome result spec.HasFewTasks }
+{
+    if args.len() > 1 {
+        return None;
+    }
+    let program = text_at(args, 0)?;
+    Some(Command::Sites { program })
 }
 
 #[tactic(auto, using(crate::proofs::FormLaws::text_seen))]

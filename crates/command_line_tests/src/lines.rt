@@ -33,10 +33,11 @@ fn text(alloc: Global, command: &Option<Command<'_>>) -> Result<String, AllocErr
             let brief = if *brief { " brief" } else { "" };
             format!(in alloc; "run {image} {world}{brief}")
         }
+        Some(Command::Sites { program }) => format!(in alloc; "sites {program}"),
     }
 }
 
-static LINES: [(&str, &str); 96] = [
+static LINES: [(&str, &str); 106] = [
     ("walk|p|5", "walk p 5 ?"),
     ("walk|p|5|w", "walk p 5 w"),
     ("walk", "usage"),
@@ -55,6 +56,16 @@ static LINES: [(&str, &str); 96] = [
     ("walk||5", "walk  5 ?"),
     ("walk|-|5", "walk - 5 ?"),
     ("walk|p|5|--brief", "usage"),
+    ("sites|p", "sites p"),
+    ("sites|-", "sites -"),
+    ("sites|--|--brief", "sites --brief"),
+    ("--|sites|p", "sites p"),
+    ("sites|p|--", "sites p"),
+    ("sites", "usage"),
+    ("sites|p|q", "usage"),
+    ("sites|p|--brief", "usage"),
+    ("--scheme|undo|sites|p", "usage"),
+    ("site|p", "usage"),
     ("build|p", "usage"),
     ("build|p|--scheme|undo", "usage"),
     ("build|p|--scheme=bank", "usage"),

@@ -1,6 +1,6 @@
 -- From what the parts of a command answer to what the command says.
 use Rattle.std.proofs.Common.{◌≡◌, ℕ, ◌<◌, ◌≤◌, Bool, List, [], ◌∷◌, ◌++◌, length, take, Option, Some, None, Result, Ok, Err, IfOk, refl, sym, ap, subst, ◌∙◌, arith, inl, inr}
-use Rattle.command_line.specs.Form.{Form, walk, run}
+use Rattle.command_line.specs.Form.{Form, walk, run, sites}
 use Rattle.devices.specs.declared.event.RunEnd.{RunEnd}
 use Rattle.devices.specs.declared.event.RunEnd.TheVariants as run_end
 use Rattle.devices.specs.declared.world.World.{World}
@@ -12,7 +12,7 @@ use Rattle.ease_cli.specs.Answer.{Answers, Tells, AreRead, IsRead, Reaches, Stop
 use Rattle.ease_cli.specs.Files.{Files, files_of, Kind, source_file, image_file, world_file, Wanted, named, named_if, wanted, limit_of, IsQuiet, IsUnbrought, failed, long}
 use Rattle.ease_cli.specs.Inputs.{Input, tree, image, world, refused_status, IsRefused}
 use Rattle.ease_cli.specs.Lines.{usage}
-use Rattle.ease_cli.specs.Output.{IsOutput, walks, runs, IsWalkOutput, IsRunOutput, walk_status, run_status}
+use Rattle.ease_cli.specs.Output.{IsOutput, walks, runs, accounts, IsWalkOutput, IsRunOutput, IsAccount, walk_status, run_status}
 use Rattle.ease_cli.specs.declared.refusal.Refusal.{Refusal}
 use Rattle.ease_cli.specs.declared.refusal.Refusal.TheVariants as refusal
 use Rattle.ease_cli.specs.declared.status.Status.{Status}
@@ -114,6 +114,13 @@ run_on f file named_world brief i w r before after quiet read second answers =
     answers_weaker (IsRunOutput i w brief) (Says (run file named_world brief) f) r before after
     (λ s t output. done (image i ∷ (world w ∷ [])) quiet (read, (second, tt)) (runs file named_world brief i w refl refl output)) answers
 
+-- `sites`
+pub sites_of : (f : Files) (program : List ℕ) (p : Program) (core : Core) (r : Result Status Refusal) (before after : Option (List ℕ))
+    → IsQuiet f → IsRead f (named source_file program) [] (tree p) → core ≡ core_of p → Answers (IsAccount core p) r before after → Answers (Says (sites program) f) r before after
+sites_of f program p core r before after quiet read is answers =
+    answers_weaker (IsAccount core p) (Says (sites program) f) r before after
+    (λ s t output. done (tree p ∷ []) quiet (read, tt) (accounts program p refl refl (subst (λ (c : Core). IsAccount c p s t) is output))) answers
+
 -- ---- what is said has a status of its own
 
 -- the statuses that write no line
@@ -153,6 +160,7 @@ unbrought_speaks f name limit s t (long is line steady rose why) silent = subst 
 output_speaks : (c : Form) (inputs : List Input) (s : Status) (t : List ℕ) → IsOutput c inputs s t → IsSilent s → ⊥
 output_speaks c inputs s t (walks program tasks named p rest asked read output) silent = walk_speaks _ (subst IsSilent output.ended silent)
 output_speaks c inputs s t (runs file named brief i w asked read output) silent = run_speaks _ (subst IsSilent output.ended silent)
+output_speaks c inputs s t (accounts program p asked read output) silent = subst IsSilent output.ended silent
 
 stops_speak : (f : Files) (at : Wanted) (before : List Input) (s : Status) (t : List ℕ) → Stops f at before s t → IsSilent s → ⊥
 stops_speak f at before s t (unbrought why) silent = unbrought_speaks f at.name (limit_of at.kind) s t why silent

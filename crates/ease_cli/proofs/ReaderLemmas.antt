@@ -8,6 +8,7 @@ use Rattle.ease_cli.specs.Answer.{Tells}
 use Rattle.ease_cli.specs.Files.{source_file, image_file, world_file}
 use Rattle.ease_cli.specs.Inputs.{Input, IsRefused, IsTree, IsImage, IsUnaccepted, names_of, unread, unaccepted}
 use Rattle.ease_cli.specs.Lines.{text_line, check_line, world_line, image_line}
+use Rattle.ease_cli.specs.declared.readers.Source.{Source}
 use Rattle.ease_cli.specs.declared.refusal.Refusal.{Refusal}
 use Rattle.ease_cli.specs.declared.refusal.Refusal.TheVariants as refusal
 use Rattle.ease_cli.specs.declared.status.Status.{Status}
@@ -16,7 +17,6 @@ use Rattle.image_file.specs.Bytes.{image_bytes, raw_of, HasFields}
 use Rattle.image_file.specs.Faults.{image_fault}
 use Rattle.image_file.specs.declared.error.ImageError.{ImageError}
 use Rattle.image_file.specs.declared.error.ImageError.TheVariants as image
-use Rattle.task_ast.specs.declared.core_form.Core.{Core}
 use Rattle.task_ast.specs.declared.tree.Program.{Program}
 use Rattle.task_check.specs.CheckedForm.{core_of}
 use Rattle.task_check.specs.Faults.{Accepted, first_fault}
@@ -69,9 +69,9 @@ not_accepted : (p : Program) (fault : CheckError) → first_fault p ≡ Some fau
 not_accepted p fault first none = cc
 
 -- a tree that isn't accepted
-pub tree_refused : (bytes : List ℕ) (p : Program) (r : Result Core Refusal) → Reads bytes p → ((q : Program) → Reads bytes q → Answers (Ok p) (Ok q))
+pub tree_refused : (bytes : List ℕ) (p : Program) (r : Result Source Refusal) → Reads bytes p → ((q : Program) → Reads bytes q → Answers (Ok p) (Ok q))
     → IfErr r (Tells (IsUnaccepted p)) → IfErr r (Tells (IsRefused source_file [] bytes))
-tree_refused bytes p (Ok core) reads only told = told
+tree_refused bytes p (Ok source) reads only told = told
 tree_refused bytes p (Err refusal.WriteFault) reads only told = told
 tree_refused bytes p (Err refusal.NoMemory) reads only told = told
 tree_refused bytes p (Err (refusal.Refused s t)) reads only told = record {
@@ -81,8 +81,11 @@ tree_refused bytes p (Err (refusal.Refused s t)) reads only told = record {
 }
 
 -- a tree that is accepted
-pub tree_read : (bytes : List ℕ) (p : Program) (r : Result Core Refusal) → Reads bytes p → IfOk r (λ core. Accepted p × (core ≡ core_of p)) → IfOk r (λ core. (q : Program) × IsTree bytes q × (core ≡ core_of q))
-tree_read bytes p (Ok core) reads got = (p, (reads, got.0), got.1)
+pub tree_read : (bytes : List ℕ) (p : Program) (r : Result Source Refusal) → Reads bytes p → IfOk r (λ source. (source.program ≡ p) × Accepted p × (source.core ≡ core_of p))
+    → IfOk r (λ source. IsTree bytes source.program × (source.core ≡ core_of source.program))
+tree_read bytes p (Ok source) reads got =
+    let is : p ≡ source.program = sym got.0 in
+    ((subst (Reads bytes) is reads, subst Accepted is got.1), got.2 ∙ ap core_of is)
 tree_read bytes p (Err e) reads got = got
 
 -- ---- images and worlds

@@ -1,6 +1,6 @@
 -- The output of each command over its inputs, with its status.
 use Rattle.std.specs.Prelude.{◌≡◌, ℕ, Bool, List, [], ◌∷◌, Option}
-use Rattle.command_line.specs.Form.{Form, walk, run}
+use Rattle.command_line.specs.Form.{Form, walk, run, sites}
 use Rattle.devices.specs.declared.event.RunEnd.{RunEnd}
 use Rattle.devices.specs.declared.event.RunEnd.TheVariants as run_end
 use Rattle.devices.specs.declared.world.World.{World}
@@ -8,6 +8,8 @@ use Rattle.ease_cli.specs.Inputs.{Input, tree, image, world}
 use Rattle.ease_cli.specs.declared.status.Status.{Status}
 use Rattle.ease_cli.specs.declared.status.Status.TheVariants.{Ok, Trapped, PowerEnded}
 use Rattle.power_trace.specs.Run.{journal_on, report_on}
+use Rattle.site_account.specs.Account.{account_of}
+use Rattle.site_account.specs.Places.{program_places}
 use Rattle.task_ast.specs.declared.core_form.Core.{Core}
 use Rattle.task_ast.specs.declared.tree.Program.{Program}
 use Rattle.task_check.specs.CheckedForm.{core_of}
@@ -40,6 +42,11 @@ pub record IsRunOutput (i : Image) (w : World) (brief : Bool) (status : Status) 
   pub ended : status ≡ run_status (journal_on i w).ending
   pub written : text ≡ report_on i w brief
 
+-- `sites`: the text is the account of the checked form, with the places that its sites have in the tree
+pub record IsAccount (core : Core) (p : Program) (status : Status) (text : List ℕ) : Type 0 where
+  pub ended : status ≡ Ok
+  pub written : text ≡ account_of core (program_places p)
+
 -- the readings of an unbroken run: those that a world retains, or none without a world
 abbrev pub retained_of : List Input → List ℕ
 retained_of [] = []
@@ -53,3 +60,5 @@ pub data IsOutput (c : Form) (inputs : List Input) (status : Status) (text : Lis
       → IsWalkOutput (core_of p) (retained_of rest) tasks status text → IsOutput c inputs status text
   runs : (file named : List ℕ) (brief : Bool) (i : Image) (w : World) → c ≡ run file named brief → inputs ≡ image i ∷ (world w ∷ [])
       → IsRunOutput i w brief status text → IsOutput c inputs status text
+  accounts : (program : List ℕ) (p : Program) → c ≡ sites program → inputs ≡ tree p ∷ []
+      → IsAccount (core_of p) p status text → IsOutput c inputs status text

@@ -11,7 +11,7 @@ ghost use Rattle.task_check.specs.CheckedForm.{core_of};
 ghost use Rattle.world_file.specs.Peripherals.{AreApart};
 
 use crate::lines::{READ_FAULT, TOO_LONG};
-use crate::readers::{image_in, program_in, world_in};
+use crate::readers::{Source, image_in, program_in, world_in};
 use crate::refusal::{Refusal, refuse};
 use crate::status::Status;
 use devices::World;
@@ -29,6 +29,23 @@ const IMAGE_LIMIT: usize = 40_000_000;
 /// The most bytes of a world.
 const WORLD_LIMIT: usize = 1_048_576;
 
+/// The program in a file, with its checked form.
+pub fn fetch_source<C: Cabinet>(alloc: Global, files: &mut C, name: &str) -> Result<Source, Refusal>
+    ensures read { IfOk result (λ source. IsRead (files_of (C.told files.old) (C.contents files.old) (C.faults files.old) (C.faults files.new) (C.long_contents files.old) (C.long_contents files.new))
+        (named source_file name.now) [] (inputs.tree source.program) × (source.core ≡ core_of source.program)) }
+    ensures stops { IfErr result (Tells (Stops (files_of (C.told files.old) (C.contents files.old) (C.faults files.old) (C.faults files.new) (C.long_contents files.old) (C.long_contents files.new))
+        (named source_file name.now) [])) }
+    ensures quiet { OnOk result (IsQuiet (files_of (C.told files.old) (C.contents files.old) (C.faults files.old) (C.faults files.new) (C.long_contents files.old) (C.long_contents files.new))) }
+    ensures well_formed { IfOk result (λ source. IsWellFormed source.core) }
+    ensures told { C.told files.new ≡ C.told files.old }
+    ensures contents { (name : List ℕ) → C.contents files.new name ≡ C.contents files.old name }
+    ensures faults { C.faults files.old ≤ C.faults files.new }
+    ensures long_contents { (C.long_contents files.new ≡ C.long_contents files.old) ⊎ (C.long_contents files.new ≡ raised (C.long_contents files.old)) }
+{
+    let bytes = fetch_bytes(alloc, files, name, SOURCE_LIMIT)?;
+    program_in(alloc, bytes.as_slice())
+}
+
 /// The checked form of the program in a file.
 pub fn fetch_program<C: Cabinet>(alloc: Global, files: &mut C, name: &str) -> Result<Core, Refusal>
     ensures read { IfOk result (λ core. (p : Program) × IsRead (files_of (C.told files.old) (C.contents files.old) (C.faults files.old) (C.faults files.new) (C.long_contents files.old) (C.long_contents files.new))
@@ -42,8 +59,10 @@ pub fn fetch_program<C: Cabinet>(alloc: Global, files: &mut C, name: &str) -> Re
     ensures faults { C.faults files.old ≤ C.faults files.new }
     ensures long_contents { (C.long_contents files.new ≡ C.long_contents files.old) ⊎ (C.long_contents files.new ≡ raised (C.long_contents files.old)) }
 {
-    let bytes = fetch_bytes(alloc, files, name, SOURCE_LIMIT)?;
-    program_in(alloc, bytes.as_slice())
+    match fetch_source(alloc, files, name) {
+        Ok(source) => Ok(source.core),
+        Err(refusal) => Err(refusal),
+    }
 }
 
 /// The image in a file.

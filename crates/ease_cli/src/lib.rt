@@ -6,6 +6,7 @@ mod lines;
 mod readers;
 mod refusal;
 mod run_command;
+mod sites_command;
 mod status;
 mod top;
 mod walk_command;

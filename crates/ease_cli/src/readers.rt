@@ -24,28 +24,35 @@ use task_text::read_program;
 use word_isa::Image;
 use world_file::read_world;
 
-/// The checked form of a source.
-pub fn program_in(alloc: Global, bytes: &[u8]) -> Result<Core, Refusal>
+/// A program as it was read, with its checked form.
+#[derive(Drop)]
+pub struct Source {
+    pub program: Program,
+    pub core: Core,
+}
+
+/// The program of a source.
+pub fn program_in(alloc: Global, bytes: &[u8]) -> Result<Source, Refusal>
     requires short { length bytes.now ≤ 65536 }
-    ensures read { IfOk result (λ core. (p : Program) × inputs.IsTree bytes.now p × (core ≡ core_of p)) }
+    ensures read { IfOk result (λ source. inputs.IsTree bytes.now source.program × (source.core ≡ core_of source.program)) }
     ensures refused { IfErr result (Tells (inputs.IsRefused source_file [] bytes.now)) }
-    ensures well_formed { IfOk result IsWellFormed }
+    ensures well_formed { IfOk result (λ source. IsWellFormed source.core) }
 {
     match read_program(alloc, bytes) {
-        Ok(program) => checked(alloc, &program),
+        Ok(program) => checked(alloc, program),
         Err(fault) => Err(refuse(Status::SourceRefused, text_line(alloc, fault))),
     }
 }
 
-// The checked form of a tree.
-fn checked(alloc: Global, program: &Program) -> Result<Core, Refusal>
-    requires readable { IsReadable program.now }
-    ensures read { IfOk result (λ core. Accepted program.now × (core ≡ core_of program.now)) }
-    ensures refused { IfErr result (Tells (inputs.IsUnaccepted program.now)) }
-    ensures well_formed { IfOk result IsWellFormed }
+// A tree with its checked form.
+fn checked(alloc: Global, program: Program) -> Result<Source, Refusal>
+    requires readable { IsReadable program }
+    ensures read { IfOk result (λ source. (source.program ≡ program) × Accepted program × (source.core ≡ core_of program)) }
+    ensures refused { IfErr result (Tells (inputs.IsUnaccepted program)) }
+    ensures well_formed { IfOk result (λ source. IsWellFormed source.core) }
 {
-    match check(alloc, program) {
-        Ok(core) => Ok(core),
+    match check(alloc, &program) {
+        Ok(core) => Ok(Source { program, core }),
         Err(fault) => Err(refuse(Status::SourceRefused, check_line(alloc, fault))),
     }
 }

@@ -10,6 +10,7 @@ ghost use Rattle.ease_cli.specs.declared.refusal.Refusal.TheVariants.{WriteFault
 use crate::lines::USAGE;
 use crate::refusal::{Refusal, refuse};
 use crate::run_command::run_command;
+use crate::sites_command::sites_command;
 use crate::status::Status;
 use crate::walk_command::walk_command;
 use command_line::{Command, command_of};
@@ -95,5 +96,6 @@ fn carry_out<C: Cabinet, K: Sink>(
                 brief,
             },
         ) => run_command(alloc, image, world, brief, files, out),
+        Some(Command::Sites { program }) => sites_command(alloc, program, files, out),
     }
 }
