@@ -9,6 +9,7 @@ from typing import NamedTuple
 
 from model_text import Ann, Place, show
 from rules_core import Checked, Site
+from rules_flow import Account
 
 EASE = Path(__file__).resolve().parent.parent / "crates/ease/out/ease"
 SECONDS = 60
@@ -77,14 +78,14 @@ def model_lines(checked: Checked) -> Iterator[str]:
     yield "end"
 
 
-def kind_text(checked: Checked, account, site: Site) -> str:
+def kind_text(checked: Checked, account: Account, site: Site) -> str:
     if site.kind == "copy":
         arrays = list(checked.lengths)
         to, source = (sorted(ends[site.number], key=arrays.index) for ends in (account.to, account.source))
         lengths = [max([checked.lengths[name] for name in names], default=0) for names in (to, source)]
         return " ".join(["copy to", *to, "from", *source, f"greatest {min(lengths)}"])
     mark = f"timely {site.ann.ticks}" if site.ann.kind == "TIMELY" else site.ann.kind.lower()
-    others = account.forces[site.number] if site.kind == "io" else account.members[site.number]
-    front = f"io {site.name} {mark}" if site.kind == "io" else f"block {mark}"
-    word = "forces" if site.kind == "io" else "members"
-    return " ".join([front, *([word, *map(str, others)] if others else [])])
+    if site.kind == "block":
+        return " ".join([f"block {mark} members", *map(str, account.members[site.number])])
+    forces = account.forces[site.number]
+    return " ".join([f"io {site.name} {mark}", *(["forces", *map(str, forces)] if forces else [])])

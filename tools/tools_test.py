@@ -19,7 +19,7 @@ from model import check
 from model_text import NoTree, Parser, Refused, divide, read_program, show
 from rules_cases import SENSE, SEND
 from rules_flow import checked
-from timeline_sites import model_lines
+from timeline_sites import model_lines, read_sites
 from timeline_words import SENTENCES
 from tools_cases import slips
 
@@ -61,12 +61,44 @@ WHY = (
     "Site 2 is issued again although site 1 is kept: it depends on site 1, and its record was dropped in boot 2, "
     "when site 1 was issued anew."
 )
-SITES = """task 1 a
+TURNS = """peripheral temp 0; peripheral radio 1; word v; word i; nv word n; nv word a[2]; word b[4]; word *p;
+task t {
+  for (i = 0; i < 2; i++) {
+    IO_BLOCK(TIMELY(5)) {
+      v = IO(temp, SINGLE);
+      IO_BLOCK(ALWAYS) { IO(radio, SINGLE, v); }
+    }
+  }
+  p = &b[0];
+  DMA(p, a, 1);
+  n = 1;
+  IO_BLOCK(SINGLE) { }
+  STOP;
+}
+"""
+SITES = [
+    (AGAIN, """task 1 a
 site 1 1:61 io temp timely 1000 forces 2
 site 2 1:85 io radio single
 regions 1
 end
-"""
+"""),
+    (TURNS, """task 1 t
+site 1 4:5 block timely 5 members 2 3 4
+site 2 5:11 io temp single forces 3 4 5 7 8
+site 3 6:7 block always members 4
+site 4 6:26 io radio single
+site 5 4:5 block timely 5 members 6 7 8
+site 6 5:11 io temp single forces 7 8
+site 7 6:7 block always members 8
+site 8 6:26 io radio single
+site 9 10:3 copy to b from a greatest 2
+site 10 12:3 block single members
+regions 2
+first 1 n
+end
+"""),
+]  # fmt: skip
 
 
 def program(name: str):
@@ -152,6 +184,12 @@ def explain_places() -> Iterator[str]:
     wanted = ["    \tsamlpes[0] = 1;", "    \t^"]
     if said[1:] != wanted or not said[0].startswith("a.ease:3:2: ") or "Is `samples` meant?" not in said[0]:
         yield f"a place: {said}"
+    said = list(EXPLAIN.explained("a.ease", b"task t {\n  x = 1\n  STOP;\n}\n", "source syntax at 3:3"))
+    if "Perhaps a `;` is missing behind `1`." not in said[0]:
+        yield f"a line left open: {said}"
+    said = list(EXPLAIN.explained("a.ease", b"word *p; task t { p = 1; STOP; }", "source 1:19 wrong-kind"))
+    if "`p` is a pointer" not in said[0]:
+        yield f"a kind: {said}"
 
 
 # timeline
@@ -215,9 +253,14 @@ def refusal(name: str, answer: tuple[int, str, str], wanted: str) -> Iterator[st
 
 
 def sites_faults() -> Iterator[str]:
-    told = "".join(f"{line}\n" for line in model_lines(checked(AGAIN.encode())))
-    if told != SITES:
-        yield f"the sites are {told}"
+    for source, wanted in SITES:
+        form = checked(source.encode())
+        told = "".join(f"{line}\n" for line in model_lines(form))
+        if told != wanted:
+            yield f"the sites are {told}"
+        listed = [(site.task, site.number, site.at, site.kind, site.ann) for site in read_sites(told)]
+        if listed != [(task.number, site.number, site.at, site.kind, site.ann) for task in form.tasks for site in task.sites]:
+            yield f"the sites are read as {listed}"
 
 
 def sentences_faults() -> Iterator[str]:
