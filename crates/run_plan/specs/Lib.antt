@@ -1,7 +1,10 @@
+pub mod ActRows
 pub mod Acts
 pub mod Cells
 pub mod Deeds
 pub mod Finding
+pub mod Kinds
+pub mod Order
 pub mod PlanOf
 pub mod PlanRows
 pub mod Rows

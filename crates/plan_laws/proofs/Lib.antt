@@ -1,0 +1,4 @@
+mod KindLaws
+mod Lists
+mod OrderLaws
+mod PlacedSites

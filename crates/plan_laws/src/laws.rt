@@ -1,0 +1,21 @@
+//! What the plan of every program meets, as the contracts of functions that do nothing.
+ghost use Rattle.task_ast.specs.WellFormed.{IsWellFormed};
+ghost use Rattle.run_plan.specs.Kinds.{IsOfProgram};
+ghost use Rattle.run_plan.specs.Order.{IsInOrder};
+ghost use Rattle.run_plan.specs.PlanOf.{plan_of};
+
+use task_ast::Core;
+use word_isa::Scheme;
+
+/// Each region, site and task in an act, reached or not, is of the act's task and of what the act is for; statements and
+/// conditions are well formed, and a statement that is one act has no sites.
+pub fn every_act_is_of_its_task(c: &Core, scheme: Scheme)
+    requires { IsWellFormed c.now }
+    ensures { IsOfProgram c.now (plan_of c.now scheme) }
+{}
+
+/// Nothing stands between an issue and its seal, and nothing but the keeping of words between a copy's transfer and its
+/// seal.
+pub fn acts_stand_in_order(c: &Core, scheme: Scheme)
+    ensures { IsInOrder (plan_of c.now scheme) }
+{}

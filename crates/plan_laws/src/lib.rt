@@ -1,0 +1,6 @@
+//! Laws on the plan of every program.
+#![tactic(auto)]
+
+mod laws;
+
+pub use laws::{acts_stand_in_order, every_act_is_of_its_task};
