@@ -82,11 +82,19 @@ class SiteWriter(Writer):
         sources = [words for words in self.words if words.length]
         if not arrays or self.chance(0.12):
             return super().copy()
-        to, source = self.rng.choice(arrays), self.rng.choice(sources)
-        most = min(to.length, source.length)
-        count = self.rng.randint(0, most)
+        to = self.rng.choice(arrays)
+        source = to if self.chance(0.3) else self.rng.choice(sources)
+        count = self.rng.randint(0, min(to.length, source.length))
+        if to == source and to.length > 2 and self.chance(0.7):
+            return self.overlap(to)
         ends = [self.end_in(words, words.length - count) for words in (to, source)]
         return ["DMA", "(", *ends[0], ",", *ends[1], ",", *self.length(count), ")", ";"]
+
+    def overlap(self, words: Words) -> Tokens:
+        """A copy within an array by one place up or down."""
+        ends = [[words.name], ["&", words.name, "[", "1", "]"]]
+        self.rng.shuffle(ends)
+        return ["DMA", "(", *ends[0], ",", *ends[1], ",", *self.length(words.length - 1), ")", ";"]
 
     def end_in(self, words: Words, last: int) -> Tokens:
         if self.chance(0.4):
@@ -178,6 +186,18 @@ def failing_world(rng: random.Random, readings: dict[str, list[int]], steps: int
     longest = max(1, min(rng.choice([30, 300, 600, 1000, UNBROKEN]), steps))
     rows = [row(rng, rng.randint(longest // 3 if rng.random() < 0.8 else 0, longest)) for _ in range(rng.randint(1, 20))]
     return World([*rows, Row(UNBROKEN)], readings, [])
+
+
+def failed_behind(rng: random.Random, readings: dict[str, list[int]], report: bytes) -> World:
+    """A failure right behind an event of the report's first boot, mostly a seal, perhaps more soon behind it, and power enough."""
+    steps: dict[bytes, list[int]] = {}
+    for line in report.partition(b" boot 2")[0].splitlines():
+        step, word = line.split()[:2]
+        steps.setdefault(word, []).append(int(step))
+    kinds = [word for word in (b"seal", b"seal", b"issue", b"drop", b"copy", b"look", b"commit") if word in steps]
+    first = rng.choice(steps[rng.choice(kinds)]) if kinds else 0
+    rows = [row(rng, rng.randint(0, 600)) for _ in range(rng.choice([0, 0, 1, 2]))]
+    return World([row(rng, first), *rows, Row(UNBROKEN)], readings, [])
 
 
 def failed_at(rng: random.Random, readings: dict[str, list[int]], step: int, again: int | None) -> World:
