@@ -84,6 +84,25 @@ broken_beginning_rules : expect three_readings (1 ∷ 6 ∷ []) (40 ∷ 90 ∷ [
 unfolding hidden-the_row-CoreExpr-0 shape-the_row-CoreExpr-0 hidden-the_row-CoreStmt-0 shape-the_row-CoreStmt-0 hidden-the_row-CoreExit-0 shape-the_row-CoreExit-0 hidden-the_row-Act-0 shape-the_row-Act-0 hidden boot_log boots_from values_in reading sending three_readings up_to_issue to_the_end
 broken_beginning_rules = refl
 
+-- It fails right behind the commit: nothing is left to do.
+committed : Outcome
+committed = record {
+  events = (up_to_issue 40 1 ++ to_the_end) ∷ [] ∷ [];
+  states = record { next = 0; words = (8 ∷ []) ∷ [] } ∷ [];
+}
+
+committed_undo : plan_outcome three_readings Undo (23 ∷ 100 ∷ []) (40 ∷ 90 ∷ []) ≡ committed
+unfolding hidden-the_row-CoreExpr-0 shape-the_row-CoreExpr-0 hidden-the_row-CoreStmt-0 shape-the_row-CoreStmt-0 hidden-the_row-CoreExit-0 shape-the_row-CoreExit-0 hidden-the_row-Act-0 shape-the_row-Act-0 hidden boot_run boots_run values_in reading sending three_readings up_to_issue to_the_end committed
+committed_undo = refl
+
+committed_bank : plan_outcome three_readings Bank (19 ∷ 100 ∷ []) (40 ∷ 90 ∷ []) ≡ committed
+unfolding hidden-the_row-CoreExpr-0 shape-the_row-CoreExpr-0 hidden-the_row-CoreStmt-0 shape-the_row-CoreStmt-0 hidden-the_row-CoreExit-0 shape-the_row-CoreExit-0 hidden-the_row-Act-0 shape-the_row-Act-0 hidden boot_run boots_run values_in reading sending three_readings up_to_issue to_the_end committed
+committed_bank = refl
+
+committed_rules : expect three_readings (6 ∷ 0 ∷ []) (40 ∷ 90 ∷ []) ≡ (up_to_issue 40 1 ++ to_the_end) ∷ [] ∷ []
+unfolding hidden-the_row-CoreExpr-0 shape-the_row-CoreExpr-0 hidden-the_row-CoreStmt-0 shape-the_row-CoreStmt-0 hidden-the_row-CoreExit-0 shape-the_row-CoreExit-0 hidden-the_row-Act-0 shape-the_row-Act-0 hidden boot_log boots_from values_in reading sending three_readings up_to_issue to_the_end
+committed_rules = refl
+
 -- The weights begun up to each event of an unbroken run, and the steps by which the rules want it, and the event that would
 -- come next.
 weights_undo : plan_weights three_readings Undo (100 ∷ []) (40 ∷ []) ≡ (132 ∷ 214 ∷ 248 ∷ 260 ∷ 268 ∷ 394 ∷ []) ∷ []

@@ -2,4 +2,5 @@ mod CallRuns
 mod Outcomes
 mod PlanExamples
 mod Programs
+mod SavingExamples
 mod StoreRuns

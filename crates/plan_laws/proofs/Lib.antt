@@ -2,3 +2,5 @@ mod KindLaws
 mod Lists
 mod OrderLaws
 mod PlacedSites
+mod SizeLaws
+mod Sums

@@ -3,6 +3,7 @@ ghost use Rattle.task_ast.specs.WellFormed.{IsWellFormed};
 ghost use Rattle.run_plan.specs.Kinds.{IsOfProgram};
 ghost use Rattle.run_plan.specs.Order.{IsInOrder};
 ghost use Rattle.run_plan.specs.PlanOf.{plan_of};
+ghost use Rattle.run_plan.specs.Sizes.{AreWithin};
 
 use task_ast::Core;
 use word_isa::Scheme;
@@ -18,4 +19,10 @@ pub fn every_act_is_of_its_task(c: &Core, scheme: Scheme)
 /// seal.
 pub fn acts_stand_in_order(c: &Core, scheme: Scheme)
     ensures { IsInOrder (plan_of c.now scheme) }
+{}
+
+/// Within the limits of programs the code of a plan, its marks and its FRAM places are within those of images.
+pub fn sizes_are_within_their_limits(c: &Core, scheme: Scheme)
+    requires { IsWellFormed c.now }
+    ensures { AreWithin scheme c.now }
 {}

@@ -3,4 +3,4 @@
 
 mod laws;
 
-pub use laws::{acts_stand_in_order, every_act_is_of_its_task};
+pub use laws::{acts_stand_in_order, every_act_is_of_its_task, sizes_are_within_their_limits};

@@ -10,6 +10,7 @@ pub mod PlanRows
 pub mod Rows
 pub mod RunRows
 pub mod Runs
+pub mod Sizes
 pub mod Small
 pub mod Sound
 pub mod Told
