@@ -15,7 +15,7 @@ SHOWN = "shown_"  # the peripheral to which a task shows the nonvolatile words w
 TICKS = [0, 30, 100, 300, 300, 1000, 1000, 5000, 2**32 - 1]
 OFFS = [0, 0, 1, 30, 100, 300, 1000, 5000, 2**20]
 FILLS = [0, 1, 2**32 - 1]
-UNBROKEN = 2000
+UNBROKEN, SHORT = 2000, 700
 MOST_STATEMENTS = 400
 
 
@@ -201,6 +201,6 @@ def failed_behind(rng: random.Random, readings: dict[str, list[int]], report: by
 
 
 def failed_at(rng: random.Random, readings: dict[str, list[int]], step: int, again: int | None) -> World:
-    """A failure behind this step, perhaps one more soon behind it, and power enough at the end."""
+    """A failure behind this step, perhaps one more soon behind it, and power for a while."""
     rows = [row(rng, step)] + ([row(rng, again)] if again is not None else [])
-    return World([*rows, Row(UNBROKEN)], readings, [])
+    return World([*rows, Row(SHORT)], readings, [])

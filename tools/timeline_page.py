@@ -11,6 +11,7 @@ from typing import NamedTuple
 
 from model_text import Place
 from rules_report import Line
+from shown_text import shown_column, shown_lines
 from timeline_follow import Follower, Mark
 from timeline_sites import Listed
 from timeline_words import AGAIN, SENTENCES, sentence
@@ -103,10 +104,10 @@ def facts(lines: list[Line], follower: Follower) -> str:
 # Pieces of the page
 
 
-def snippet(source: list[str], site: Listed) -> str:
+def snippet(source: bytes, site: Listed) -> str:
     """The statement of a site as it stands in its line."""
-    row, column = site.at
-    text = source[row - 1]
+    row, _ = site.at
+    text, column = shown_lines(source)[row - 1], shown_column(source, *site.at)
     start = text.rfind(";", 0, column - 1) + 1
     start = max(start, text.rfind("{", 0, column - 1) + 1)
     stop = min([at for at in (text.find(";", column - 1), text.find("{", column - 1)) if at >= 0], default=len(text))
@@ -145,7 +146,7 @@ def again_section(follower: Follower, sites: dict[tuple[int, int], Listed]) -> s
     return shown
 
 
-def count_rows(sites: dict[tuple[int, int], Listed], source: list[str], follower: Follower, lines: list[Line]) -> Iterator[str]:
+def count_rows(sites: dict[tuple[int, int], Listed], source: bytes, follower: Follower, lines: list[Line]) -> Iterator[str]:
     counts: Counter = Counter()
     for mark, line in zip(follower.marks, lines):
         if line.event[0] in ("issue", "kept", "drop", "copy"):
@@ -200,7 +201,12 @@ def palette(colours: dict[str, str]) -> str:
     return "".join(f"--{name}:{colour};" for name, colour in colours.items())
 
 
-def drawn(sites: dict[tuple[int, int], Listed], source: list[str], report: str, follower: Follower, lines: list[Line]) -> str:
+def site_data(source: bytes, site: Listed) -> list[int | str]:
+    column = shown_column(source, *site.at)
+    return [site.task, site.number, site.at[0], column, site.kind, mark_text(site), snippet(source, site)]
+
+
+def drawn(sites: dict[tuple[int, int], Listed], source: bytes, report: str, follower: Follower, lines: list[Line]) -> str:
     """What the script draws, as JSON that may stand in a page."""
     keys = list(SENTENCES)
     places = {key: at for at, key in enumerate(keys)}
@@ -208,8 +214,8 @@ def drawn(sites: dict[tuple[int, int], Listed], source: list[str], report: str, 
     data = {
         "report": report,
         "tasks": [task.name for task in follower.computer.checked.tasks],
-        "sites": [[s.task, s.number, *s.at, s.kind, mark_text(s), snippet(source, s)] for s in sites.values()],
-        "source": source,
+        "sites": [site_data(source, site) for site in sites.values()],
+        "source": shown_lines(source),
         "sentences": list(SENTENCES.values()),
         "notes": [[places[mark.note[0]], *mark.note[1]] for mark in follower.marks],
         "kinds": looks,
@@ -226,19 +232,18 @@ def drawn(sites: dict[tuple[int, int], Listed], source: list[str], report: str, 
 
 def page(name: str, source: bytes, report: bytes, sites: dict[tuple[int, int], Listed], lines: list[Line], follower: Follower) -> str:
     """The whole page."""
-    text = source.decode("latin-1").split("\n")
     pieces = {
         "name": escape(name),
         "facts": escape(facts(lines, follower)),
         "again": again_section(follower, sites),
-        "counts": "".join(count_rows(sites, text, follower, lines)),
+        "counts": "".join(count_rows(sites, source, follower, lines)),
         "boots": boots_section(lines, follower),
         "legend": legend(),
         "light": palette(LIGHT),
         "dark": palette(DARK),
         "style": (HERE / "timeline.css").read_text(),
         "script": (HERE / "timeline.js").read_text(),
-        "data": drawn(sites, text, report.decode("ascii"), follower, lines),
+        "data": drawn(sites, source, report.decode("ascii"), follower, lines),
     }
     shell = (HERE / "timeline.html").read_text()
     for piece, words in pieces.items():

@@ -190,6 +190,9 @@ def explain_places() -> Iterator[str]:
     said = list(EXPLAIN.explained("a.ease", b"word *p; task t { p = 1; STOP; }", "source 1:19 wrong-kind"))
     if "`p` is a pointer" not in said[0]:
         yield f"a kind: {said}"
+    said = list(EXPLAIN.explained("a.ease", "task t { /* ä */ x = 1; STOP; }".encode(), "source 1:19 unknown-name"))
+    if said[2] != "    " + " " * 17 + "^":
+        yield f"a place behind letters of two bytes: {said}"
 
 
 # timeline
@@ -225,6 +228,21 @@ def page_faults() -> Iterator[str]:
     counts = [re.sub(r"<[^>]*>", " ", row).split() for row in re.findall(r"<th scope=row>a(<td>.*?)(?=<tr>|</table>)", seen)]
     if [row[-6:] for row in counts] != [["2", "1", "1", "0", "2", "1"], ["2", "1", "0", "0", "4", "1"]]:
         yield f"the table counts {counts}"
+
+
+def page_texts() -> Iterator[str]:
+    """A program's comments are text in the page, whatever is in them."""
+    nasty = "// </script><script>alert(1)</script> <!--data--> &amp; \u00e4\n"
+    status, page, errors = timeline(nasty + AGAIN + nasty, AGAIN_REPORT)
+    plain = timeline(AGAIN, AGAIN_REPORT)[1]
+    if status or errors or page.count("<script") != plain.count("<script") or page.count("</script") != plain.count("</script"):
+        yield f"a comment changes the page: {status}, {errors}"
+    few = timeline("task t { STOP; }", "0 boot 1\n9 begin 1\n20 commit 0\n30 end halted\n")
+    trapped = timeline("nv word a[1]; task t { a[1] = 1; STOP; }", "0 boot 1\n9 begin 1\n20 trap 1\n20 end trapped 1\n")
+    dark = timeline("task t { STOP; }", "0 end power\n")
+    for name, (status, page, errors), wanted in (("a short run", few, "program stopped"), ("a trap", trapped, "trap 1"), ("no boot", dark, "power ended")):
+        if status or errors or wanted not in page.partition("<script")[0]:
+            yield f"{name}: {status}, {errors}"
 
 
 def page_refusals() -> Iterator[str]:
@@ -270,7 +288,7 @@ def sentences_faults() -> Iterator[str]:
             yield f"the sentence {key} has the places {places}"
 
 
-TESTS = (explain_lines, explain_slips, explain_places, page_faults, page_refusals, sites_faults, sentences_faults)
+TESTS = (explain_lines, explain_slips, explain_places, page_faults, page_texts, page_refusals, sites_faults, sentences_faults)
 
 
 def main() -> int:
