@@ -1,5 +1,5 @@
 -- A plan's run against the log of the rules: the same events in order, each within the steps that the rules allow.
-use Rattle.std.specs.Prelude.{◌≡◌, ⊤, ◌≤◌, List, [], ◌∷◌, Option, Some, None}
+use Rattle.std.specs.Prelude.{◌≡◌, ⊤, ◌≤◌, [], ◌∷◌, Option, Some, None}
 use Rattle.devices.specs.Journal.{JournalEvent}
 use Rattle.word_isa.specs.declared.parts.Scheme.{Scheme}
 use Rattle.task_attempts.specs.State.{Here, Log}
