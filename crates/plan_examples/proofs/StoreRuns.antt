@@ -1,6 +1,6 @@
 -- Runs of plans with copies and assignments, cut at small steps, computed: they have the events of the rules of attempts,
 -- and leave the words of the unbroken run.
-use Rattle.std.proofs.Common.{◌≡◌, ℕ, List, [], ◌∷◌, ◌++◌, refl}
+use Rattle.std.proofs.Common.{◌≡◌, List, [], ◌∷◌, ◌++◌, refl}
 use Rattle.task_ast.specs.declared.core_form.CoreExpr.TheBlock.{hidden-the_row-CoreExpr-0, shape-the_row-CoreExpr-0}
 use Rattle.task_ast.specs.declared.core_form.CoreStmt.TheBlock.{hidden-the_row-CoreStmt-0, shape-the_row-CoreStmt-0}
 use Rattle.task_ast.specs.declared.core_form.CoreExit.TheBlock.{hidden-the_row-CoreExit-0, shape-the_row-CoreExit-0}
@@ -8,12 +8,12 @@ use Rattle.devices.specs.Reading.{reading, values_in}
 use Rattle.devices.specs.Journal.{JournalEvent, cell, keep, begins, keeps, seals, copies, commits}
 use Rattle.word_isa.specs.declared.parts.Scheme.TheVariants.{Undo, Bank}
 use Rattle.task_attempts.specs.State.{Rules}
-use Rattle.task_attempts.specs.Boots.{boot_log, boots_from, costs_from, expect, costs}
+use Rattle.task_attempts.specs.Boots.{boot_log, boots_from, expect}
 use Rattle.run_plan.specs.declared.act.Act.TheBlock.{hidden-the_row-Act-0, shape-the_row-Act-0}
 use Rattle.run_plan.specs.Runs.{boot_run, boots_run}
 use Rattle.plan_examples.proofs.Programs as programs
 use Rattle.plan_examples.proofs.Programs.{shifting, pointing, summing}
-use Rattle.plan_examples.proofs.Outcomes.{Outcome, plan_outcome, plan_weights}
+use Rattle.plan_examples.proofs.Outcomes.{Outcome, plan_outcome}
 use denote.Hole.Carrier.{hidden}
 
 -- ---- a copy within an array

@@ -1,5 +1,5 @@
 -- Each act of a plan is of its task.
-use Rattle.std.proofs.Common.{◌≡◌, ◌⊎◌, inl, inr, ℕ, zero, suc, ◌+◌, Bool, ◌<◌, ◌≤◌, List, [], ◌∷◌, ◌++◌, length, map, refl, sym, ap, subst, ◌∙◌, arith}
+use Rattle.std.proofs.Common.{◌≡◌, inl, inr, ℕ, ◌+◌, Bool, ◌<◌, ◌≤◌, List, [], ◌∷◌, ◌++◌, length, map, refl, sym, subst, arith}
 use Rattle.std.specs.List.{AllByRecursion, range_with_len}
 use Rattle.task_ast.specs.declared.core_form.CoreExpr.{CoreExpr}
 use Rattle.task_ast.specs.declared.core_form.CoreStmt.{CoreStmt, Row_of-CoreStmt, end_of-CoreStmt, more_of-CoreStmt}
@@ -8,7 +8,7 @@ use Rattle.task_ast.specs.declared.core_form.CoreExit.{CoreExit, end_of-CoreExit
 use Rattle.task_ast.specs.declared.core_form.CoreExit.TheVariants as exit
 use Rattle.task_ast.specs.declared.core_form.CoreTask.{CoreTask}
 use Rattle.task_ast.specs.declared.core_form.Core.{Core}
-use Rattle.task_ast.specs.CoreSites.{Standing, a_call, a_block, a_copy, site_numbers, row_numbers, all_numbers, standings, row_standings, all_standings}
+use Rattle.task_ast.specs.CoreSites.{site_numbers, row_numbers, all_numbers, standings, row_standings, all_standings}
 use Rattle.task_ast.specs.Pointing.{pointing}
 use Rattle.task_ast.specs.WellFormed.{IsCoreStmt, AreCoreStmts, IsCoreExit, IsCoreExpr, IsCoreTask, IsWellFormed, scope_of}
 use Rattle.io_depend.specs.Told.{IsSiteOf}
@@ -19,7 +19,7 @@ use Rattle.run_plan.specs.declared.act.Leg.TheVariants.{Across, ToKept, FromKept
 use Rattle.run_plan.specs.declared.act.Act.{Act}
 use Rattle.run_plan.specs.declared.act.Act.TheVariants as act
 use Rattle.run_plan.specs.PlanOf.{Around, save_acts, issue_acts, call_acts, block_end_acts, anew_acts, again_acts, unless_plain, statement_acts, row_acts, body_acts, exit_act, around, task_acts, tasks_acts, most_regions, restore_acts, plan_of}
-use Rattle.run_plan.specs.Kinds.{IsCall, IsBlock, IsCopy, IsPlain, IsOfTask, IsOfSome, AreOfTasks, IsOfProgram}
+use Rattle.run_plan.specs.Kinds.{IsCall, IsBlock, IsCopy, IsOfTask, IsOfSome, AreOfTasks, IsOfProgram}
 use Rattle.run_plan.specs.ActRows.{test_of_task, choose_of_task, leave_of_task, by_class_of_task}
 use Rattle.plan_laws.proofs.Lists.{all_joined, all_mapped, all_in_range}
 use Rattle.plan_laws.proofs.PlacedSites.{Placed, placed_parts, same_long, row_long, task_placed, dependents_placed, region_there}
@@ -52,7 +52,7 @@ module _ (c : Core) (t : CoreTask) (scheme : Scheme) where
   copied : (k : ℕ) → IsSiteOf t k → IsCopy t k → AllByRecursion Of (act.Value k ∷ save_acts scheme (by_task.region k) ++ act.Choose k (anew_acts k) (again_acts k) ∷ [])
   copied k there copy =
       let anew = told (by_class_of_task c t k (act.Transfer k Across ∷ act.KeepWords k ∷ act.Seal k ∷ []) (act.Transfer k ToKept ∷ act.Seal k ∷ act.Transfer k FromKept ∷ []) (act.Transfer k Across ∷ []))
-          (copy, (copy, (copy, (there, tt))), (copy, (there, (copy, tt))), (copy, tt)) in
+      (copy, (copy, (copy, (there, tt))), (copy, (there, (copy, tt))), (copy, tt)) in
       let again = told (by_class_of_task c t k (act.PutWords k ∷ []) (act.Transfer k FromKept ∷ []) []) (copy, (copy, tt), (copy, tt), tt) in
       all_joined Of (act.Value k ∷ save_acts scheme (by_task.region k)) (act.Choose k (anew_acts k) (again_acts k) ∷ [])
       (inr copy, saved scheme (by_task.region k) (region_there t k)) (told (choose_of_task c t k (anew_acts k) (again_acts k)) (inr copy, (anew, tt), (again, tt)), tt)
@@ -67,9 +67,11 @@ module _ (c : Core) (t : CoreTask) (scheme : Scheme) where
     stmt_of (stmt.Assign x e) level branched w there = (record { level = level; branched = branched; formed = w; bare = refl }, tt)
     stmt_of (stmt.Point p array i) level branched w there = (record { level = level; branched = branched; formed = w; bare = refl }, tt)
     stmt_of (stmt.If' e m yes_row n no_row) level branched w there =
-        let parts = placed_parts t (row_numbers yes_row) (row_numbers no_row) (row_standings c.arrays (pointing t) yes_row) (row_standings c.arrays (pointing t) no_row) (row_long c.arrays (pointing t) yes_row) there in
-        (by_sites (stmt.If' e m yes_row n no_row) level branched e (row_acts by_task yes_row) (row_acts by_task no_row) w (row_numbers yes_row ++ row_numbers no_row) refl
-        (w.1, row_of yes_row _ _ w.2 parts.0, row_of no_row _ _ w.3 parts.1), tt)
+        let parts = placed_parts t (row_numbers yes_row) (row_numbers no_row) (row_standings c.arrays (pointing t) yes_row) (row_standings c.arrays (pointing t) no_row) (row_long c.arrays (pointing t) yes_row) there in (
+          by_sites (stmt.If' e m yes_row n no_row) level branched e (row_acts by_task yes_row) (row_acts by_task no_row) w (row_numbers yes_row ++ row_numbers no_row) refl
+              (w.1, row_of yes_row _ _ w.2 parts.0, row_of no_row _ _ w.3 parts.1),
+          tt,
+        )
     stmt_of (stmt.Loop' i turns m row) level branched w there = (record { level = level; branched = branched; formed = w; bare = w.4 }, tt)
     stmt_of (stmt.Io k x p args) level branched w there = called k there.0.0 there.0.1
     stmt_of (stmt.Block' k m row) level branched w there = blocked k there.0.0 there.0.1 (row_acts by_task row) (row_of row _ _ w.1 there.1)

@@ -1,6 +1,9 @@
+mod BankLaws
 mod KindLaws
 mod Lists
 mod OrderLaws
 mod PlacedSites
+mod SavingLaws
+mod SavingOrder
 mod SizeLaws
 mod Sums

@@ -1,5 +1,5 @@
 -- In a plan each act is followed by what must come behind it.
-use Rattle.std.proofs.Common.{◌≡◌, ℕ, zero, suc, ◌+◌, List, [], ◌∷◌, ◌++◌, map, refl, sym, ap, subst, ◌∙◌}
+use Rattle.std.proofs.Common.{◌≡◌, ℕ, ◌+◌, List, [], ◌∷◌, ◌++◌, map, refl, sym, subst}
 use Rattle.std.specs.List.{AllByRecursion, range_with_len}
 use Rattle.task_ast.specs.declared.core_form.CoreStmt.{CoreStmt, Row_of-CoreStmt, end_of-CoreStmt, more_of-CoreStmt}
 use Rattle.task_ast.specs.declared.core_form.CoreStmt.TheVariants as stmt
@@ -53,7 +53,7 @@ ended k = (λ rest. tt, told (leave_ordered k (block_end_acts k)) (tt, tt, (tt, 
 chosen : (k : ℕ) → IsFree (act.Choose k (anew_acts k) (again_acts k))
 chosen k =
     let anew = told (by_class_ordered k (act.Transfer k Across ∷ act.KeepWords k ∷ act.Seal k ∷ []) (act.Transfer k ToKept ∷ act.Seal k ∷ act.Transfer k FromKept ∷ []) (act.Transfer k Across ∷ []))
-        ((tt, (refl, refl), (tt, tt, (tt, tt, tt))), (tt, refl, (tt, tt, (tt, tt, tt))), (tt, tt, tt)) in
+    ((tt, (refl, refl), (tt, tt, (tt, tt, tt))), (tt, refl, (tt, tt, (tt, tt, tt))), (tt, tt, tt)) in
     let again = told (by_class_ordered k (act.PutWords k ∷ []) (act.Transfer k FromKept ∷ []) []) ((tt, tt, tt), (tt, tt, tt), tt) in
     (λ rest. tt, told (choose_ordered k (anew_acts k) (again_acts k)) ((anew, tt, tt), (again, tt, tt)))
 

@@ -1,5 +1,5 @@
 -- The sites of a task's statements, each with what stands there.
-use Rattle.std.proofs.Common.{◌≡◌, ℕ, zero, suc, ◌+◌, ◌-◌, ◌<◌, ◌≤◌, Bool, true, false, cond, List, [], ◌∷◌, ◌++◌, length, map, filter, take, Option, Some, None, slice_get, refl, sym, ap, subst, ◌∙◌, arith}
+use Rattle.std.proofs.Common.{◌≡◌, ℕ, zero, suc, ◌+◌, ◌-◌, ◌<◌, ◌≤◌, Bool, true, false, cond, List, [], ◌∷◌, ◌++◌, length, map, filter, take, Some, slice_get, refl, sym, ap, subst, ◌∙◌, arith}
 use Rattle.std.specs.Bool.{⊤}
 use Rattle.std.specs.List.{AllByRecursion, range_with_len}
 use Rattle.std.proofs.lemmas.List.{length-append, append_assoc}
@@ -7,9 +7,8 @@ use Rattle.task_ast.specs.declared.core_form.Array.{Array}
 use Rattle.task_ast.specs.declared.core_form.CoreStmt.{CoreStmt, Row_of-CoreStmt, end_of-CoreStmt, more_of-CoreStmt}
 use Rattle.task_ast.specs.declared.core_form.CoreStmt.TheVariants as stmt
 use Rattle.task_ast.specs.declared.core_form.CoreTask.{CoreTask}
-use Rattle.task_ast.specs.declared.core_form.Core.{Core}
 use Rattle.task_ast.specs.declared.core_form.Site.{Site}
-use Rattle.task_ast.specs.CoreSites.{Standing, a_call, a_block, a_copy, standing_of, site_numbers, row_numbers, all_numbers, standings, row_standings, all_standings}
+use Rattle.task_ast.specs.CoreSites.{Standing, standing_of, site_numbers, row_numbers, all_numbers, standings, row_standings, all_standings}
 use Rattle.task_ast.specs.Pointing.{Pointing, pointing}
 use Rattle.task_ast.specs.WellFormed.{HasItsSites}
 use Rattle.io_depend.specs.Sets.{has}
@@ -67,9 +66,10 @@ placed_from t before (s ∷ rest) is =
     let long : length t.sites ≡ length before + suc (length rest) = ap length is ∙ length-append before (s ∷ rest) in
     let more : length before + 1 ≡ suc (length before) = omega arith in
     let here : site_at t.sites (length before + 1) ≡ Some s = ap (λ sites. site_at sites (length before + 1)) is ∙ ap (site_at (before ++ s ∷ rest)) more ∙ behind_others before s rest in
-    let next : length (before ++ s ∷ []) + 1 ≡ length before + 1 + 1 = ap (λ n. n + 1) (length-append before (s ∷ [])) in
-    ((((omega arith), (omega (arith, long))), ap standing_or_none here),
-    subst (λ m. Placed t (range_with_len m (length rest)) (map standing_of rest)) next (placed_from t (before ++ s ∷ []) rest (is ∙ sym (append_assoc before (s ∷ []) rest))))
+    let next : length (before ++ s ∷ []) + 1 ≡ length before + 1 + 1 = ap (λ n. n + 1) (length-append before (s ∷ [])) in (
+      (((omega arith), (omega (arith, long))), ap standing_or_none here),
+      subst (λ m. Placed t (range_with_len m (length rest)) (map standing_of rest)) next (placed_from t (before ++ s ∷ []) rest (is ∙ sym (append_assoc before (s ∷ []) rest))),
+    )
 
 pub task_placed : (arrays : List Array) (t : CoreTask) → HasItsSites arrays t → Placed t (all_numbers t.body) (all_standings arrays (pointing t) t.body)
 task_placed arrays t w = subst (λ ks. Placed t ks (all_standings arrays (pointing t) t.body)) (sym w.numbers) (subst (Placed t (range_with_len 1 (length t.sites))) (sym w.standing) (placed_from t [] t.sites refl))

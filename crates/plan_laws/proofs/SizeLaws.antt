@@ -1,8 +1,8 @@
 -- Within the limits of programs the sizes of plans are within theirs.
-use Rattle.std.proofs.Common.{◌≡◌, ℕ, zero, suc, ◌+◌, ◌-◌, ◌*◌, ◌<◌, ◌≤◌, max, Bool, true, false, not, ◌&&◌, ◌||◌, cond, List, [], ◌∷◌, ◌++◌, length, map, filter, Option, Some, None, slice_get, sum_by, refl, sym, ap, subst, ◌∙◌, arith}
+use Rattle.std.proofs.Common.{◌≡◌, ℕ, zero, suc, ◌+◌, ◌-◌, ◌*◌, ◌≤◌, Bool, true, false, not, ◌&&◌, ◌||◌, cond, List, [], ◌∷◌, ◌++◌, length, map, Option, slice_get, sum_by, refl, sym, ap, subst, arith}
 use Rattle.std.specs.List.{AllByRecursion, range_with_len}
 use Rattle.std.proofs.Math.Nat.{max-le}
-use Rattle.std.proofs.lemmas.List.{length-append, length-map}
+use Rattle.std.proofs.lemmas.List.{length-append}
 use Rattle.std.proofs.lemmas.List.FromFn.{length-range_with_len}
 use Rattle.std.proofs.lemmas.List.Sums.{sum_by-cons}
 use Rattle.task_ast.specs.declared.tree.Kind.{Kind}
@@ -13,15 +13,15 @@ use Rattle.task_ast.specs.declared.core_form.Core.{Core}
 use Rattle.task_ast.specs.CoreNodes.{task_nodes}
 use Rattle.task_ast.specs.CoreSites.{room}
 use Rattle.task_ast.specs.Pointing.{pointing}
-use Rattle.task_ast.specs.WellFormed.{IsCoreTask, IsWellFormed, core_names, fram_size, ram_size, site_words}
+use Rattle.task_ast.specs.WellFormed.{IsCoreTask, IsWellFormed, fram_size, ram_size}
 use Rattle.io_depend.specs.Sets.{has}
 use Rattle.io_depend.specs.Depend.{flow, dependents}
-use Rattle.region_split.specs.Regions.{all_touches, writes_in, writes_before, is_nonvolatile, keeps_words, copies, is_copy, regions}
+use Rattle.region_split.specs.Regions.{all_touches, writes_in, writes_before, is_nonvolatile, keeps_words, is_copy, regions}
 use Rattle.word_isa.specs.declared.parts.Scheme.{Scheme}
 use Rattle.word_isa.specs.declared.parts.Scheme.TheVariants.{Undo, Bank}
 use Rattle.task_attempts.specs.Costs.{is_volatile, words_where, first_words}
 use Rattle.run_plan.specs.PlanOf.{most_regions}
-use Rattle.run_plan.specs.Sizes.{drops_of, all_first_words, safety_words, task_words, code_words, task_marks, code_marks, kept_in, most, is_constant, fram_words, AreWithin}
+use Rattle.run_plan.specs.Sizes.{drops_of, all_first_words, safety_words, task_words, task_marks, kept_in, most, is_constant, AreWithin}
 use Rattle.plan_laws.proofs.Sums.{sum_less, sums_less, filter_sum, places_sum, sum_more, filter_few}
 
 -- ---- words of arrays
@@ -121,10 +121,16 @@ module _ (c : Core) (t : CoreTask) where
   firsts_before (suc r) =
       let next : suc r ≡ r + 1 = omega arith in
       let last : 0 + r ≡ r = omega arith in
-      omega (arith, firsts_before r, ap (λ n. sum_by (first_words c t) (range_with_len 0 n)) next, sum_more (first_words c t) 0 r, ap (first_words c t) last,
-      filter_sum words (λ a. keeps a && (within r a && not (before r a))) places,
-      sums_less (λ a. cond (keeps a && before r a) (words a) 0) (λ a. cond (keeps a && (within r a && not (before r a))) (words a) 0) (λ a. cond (keeps a && (before r a || within r a)) (words a) 0) places
-      (λ a. split_test (keeps a) (before r a) (within r a) (words a)))
+      omega (
+        arith,
+        firsts_before r,
+        ap (λ n. sum_by (first_words c t) (range_with_len 0 n)) next,
+        sum_more (first_words c t) 0 r,
+        ap (first_words c t) last,
+        filter_sum words (λ a. keeps a && (within r a && not (before r a))) places,
+        sums_less (λ a. cond (keeps a && before r a) (words a) 0) (λ a. cond (keeps a && (within r a && not (before r a))) (words a) 0) (λ a. cond (keeps a && (before r a || within r a)) (words a) 0) places
+            (λ a. split_test (keeps a) (before r a) (within r a) (words a)),
+      )
 
   abbrev some_words : Option Array → ℕ
   some_words a = cond (keeps_words a) (room a) 0
@@ -175,6 +181,11 @@ pub sizes_within : (scheme : Scheme) (c : Core) → IsWellFormed c → AreWithin
 sizes_within scheme c w = record {
   code = omega (arith, all_tasks scheme c w c.tasks w.tasks, w.nodes, w.few_tasks);
   marks = omega (arith, all_marks c c.tasks w.tasks, w.nodes, w.few_tasks);
-  fram = omega (arith, fram_few c w, most_regions_few c.tasks (each c.tasks (λ t core. regions_few t core.sites.few) w.tasks),
-      most_few (λ t. length t.sites) 128 c.tasks (each c.tasks (λ t core. core.sites.few) w.tasks), most_few kept_in 16384 c.tasks (each c.tasks (λ t core. core.sites.kept) w.tasks));
+  fram = omega (
+    arith,
+    fram_few c w,
+    most_regions_few c.tasks (each c.tasks (λ t core. regions_few t core.sites.few) w.tasks),
+    most_few (λ t. length t.sites) 128 c.tasks (each c.tasks (λ t core. core.sites.few) w.tasks),
+    most_few kept_in 16384 c.tasks (each c.tasks (λ t core. core.sites.kept) w.tasks),
+  );
 }

@@ -1,9 +1,11 @@
 //! What the plan of every program meets, as the contracts of functions that do nothing.
+ghost use Rattle.std.specs.Prelude.{◌≡◌, true};
 ghost use Rattle.task_ast.specs.WellFormed.{IsWellFormed};
 ghost use Rattle.run_plan.specs.Kinds.{IsOfProgram};
 ghost use Rattle.run_plan.specs.Order.{IsInOrder};
 ghost use Rattle.run_plan.specs.PlanOf.{plan_of};
 ghost use Rattle.run_plan.specs.Sizes.{AreWithin};
+ghost use Rattle.run_plan.specs.Sound.{tasks_save};
 
 use task_ast::Core;
 use word_isa::Scheme;
@@ -25,4 +27,12 @@ pub fn acts_stand_in_order(c: &Core, scheme: Scheme)
 pub fn sizes_are_within_their_limits(c: &Core, scheme: Scheme)
     requires { IsWellFormed c.now }
     ensures { AreWithin scheme c.now }
+{}
+
+/// Under `undo` each region of a task is saved once, with its lock right behind, in its place: region 0 before all
+/// statements, and the region of a copy behind the copy's valuing and before its other acts. Under `bank` nothing is saved.
+#[tactic(auto, using(crate::proofs::BankLaws::plan_saves))]
+pub fn saving_stands_in_its_place(c: &Core, scheme: Scheme)
+    requires { IsWellFormed c.now }
+    ensures { tasks_save scheme c.now.tasks (plan_of c.now scheme).tasks ≡ true }
 {}

@@ -1,5 +1,5 @@
 -- Claims on acts with lists of their own, by these lists.
-use Rattle.std.specs.Prelude.{◌≡◌, ◌⊎◌, ℕ, List, [], ◌∷◌}
+use Rattle.std.specs.Prelude.{◌≡◌, ◌⊎◌, ℕ, List}
 use Rattle.std.specs.List.{AllByRecursion}
 use Rattle.std.proofs.Common.{refl, ap, ◌∙◌}
 use Rattle.task_ast.specs.declared.core_form.CoreExpr.{CoreExpr}

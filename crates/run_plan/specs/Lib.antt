@@ -10,6 +10,8 @@ pub mod PlanRows
 pub mod Rows
 pub mod RunRows
 pub mod Runs
+pub mod Safe
+pub mod Shows
 pub mod Sizes
 pub mod Small
 pub mod Sound
