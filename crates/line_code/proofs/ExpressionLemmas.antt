@@ -15,7 +15,7 @@ use Rattle.line_code.specs.Lines.{bares}
 use Rattle.line_code.specs.Sizes.{expr_size, one_size, two_size}
 use Rattle.line_code.specs.Expressions.{place_code, pointer_code, one_code, op_code, sides_code, both_code, either_code, two_code, expr_code}
 use Rattle.line_code.specs.ExpressionLaws.{code_at_cell, code_at_through, code_at_one, code_at_two}
-use Rattle.line_code.proofs.CodeLemmas.{two_parts, three_parts}
+use Rattle.line_code.specs.PartLaws.{two_parts, three_parts}
 
 -- a part's size, with more lines
 pub size_more : (e i got : CoreExpr) (n x y : ℕ) → expr_size e ≡ expr_size i + n → got ≡ i → x ≡ min (expr_size got) 4294967295 → y ≡ min (x + n) 4294967295

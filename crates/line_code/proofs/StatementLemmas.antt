@@ -14,7 +14,7 @@ use Rattle.line_code.specs.Sizes.{expr_size, statement_size, body_size}
 use Rattle.line_code.specs.Expressions.{place_code, expr_code}
 use Rattle.line_code.specs.Statements.{point_code, unless_code, if_code, loop_code, statement_code, body_code}
 use Rattle.line_code.specs.StatementLaws.{size_if, code_if, short_if, size_loop, code_loop, short_loop}
-use Rattle.line_code.proofs.CodeLemmas.{three_parts, five_parts}
+use Rattle.line_code.specs.PartLaws.{three_parts, five_parts}
 use Rattle.line_code.specs.Fitting.{IsShort, IsShortStmt, IsShortBody}
 
 -- along an equation of types

@@ -3,6 +3,7 @@ pub mod ExpressionLaws
 pub mod Expressions
 pub mod Fitting
 pub mod Lines
+pub mod PartLaws
 pub mod Sizes
 pub mod StatementLaws
 pub mod Statements

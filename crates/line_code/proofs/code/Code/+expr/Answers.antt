@@ -5,7 +5,7 @@ use Rattle.line_code.specs.ExpressionLaws.{size_at_cell, size_at_through, size_a
 use Rattle.line_code.specs.Fitting.{IsShort}
 use Rattle.line_code.specs.Expressions.{op_code}
 use Rattle.line_code.specs.Sizes.{expr_size, two_size}
-use Rattle.line_code.proofs.CodeLemmas.{on_ok}
+use Rattle.line_code.specs.PartLaws.{on_ok}
 use Rattle.line_code.proofs.ExpressionLemmas.{cell_lines, through_lines, one_lines, both_lines, either_lines, sides_lines, strict_size, one_positive}
 use Rattle.line_code.proofs.code.Code.+expr.Goals as goal
 

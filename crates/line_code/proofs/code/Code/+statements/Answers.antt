@@ -4,7 +4,7 @@ use Rattle.std.proofs.Common.{arith, rules}
 use Rattle.line_code.specs.Fitting.{IsShort, IsShortStmt, IsShortBody}
 use Rattle.line_code.specs.Sizes.{expr_size, body_size, statement_size}
 use Rattle.line_code.proofs.StatementLemmas.{choose_lines, if_short, if_size, loop_short, loop_size, if_lines, loop_lines, sets_out, one_more, at_next}
-use Rattle.line_code.proofs.CodeLemmas.{on_ok}
+use Rattle.line_code.specs.PartLaws.{on_ok}
 use Rattle.line_code.proofs.code.Code.+statements.Goals as goal
 
 pub choose-statements-requires : goal.choose-statements-requires

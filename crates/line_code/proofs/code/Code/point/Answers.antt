@@ -1,6 +1,6 @@
 -- Three parts.
 use Rattle.line_code.proofs.StatementLemmas.{point_lines}
-use Rattle.line_code.proofs.CodeLemmas.{on_ok}
+use Rattle.line_code.specs.PartLaws.{on_ok}
 use Rattle.line_code.proofs.code.Code.point.Goals as goal
 
 pub returns-clause-lines : goal.returns-clause-lines

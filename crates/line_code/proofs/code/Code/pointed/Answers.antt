@@ -1,5 +1,5 @@
 -- Three parts.
-use Rattle.line_code.proofs.CodeLemmas.{on_ok, three_parts}
+use Rattle.line_code.specs.PartLaws.{on_ok, three_parts}
 use Rattle.line_code.proofs.code.Code.pointed.Goals as goal
 
 pub returns-clause-lines : goal.returns-clause-lines

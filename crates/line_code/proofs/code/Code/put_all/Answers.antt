@@ -1,5 +1,5 @@
 -- As many lines as instructions.
-use Rattle.line_code.proofs.CodeLemmas.{count_behind, all_put}
+use Rattle.line_code.specs.PartLaws.{count_behind, all_put}
 use Rattle.line_code.proofs.code.Code.put_all.Goals as goal
 
 pub returns-clause-count : goal.returns-clause-count

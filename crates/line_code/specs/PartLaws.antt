@@ -1,4 +1,4 @@
--- Code that was put behind code in several parts.
+-- Laws on code that was put behind code in several parts.
 use Rattle.std.specs.Prelude.{◌≡◌, ℕ, suc, ◌+◌, ◌≤◌, List, [], ◌∷◌, ◌++◌, length, Result, Ok, Err, OnOk, refl}
 use Rattle.std.proofs.Common.{ap, sym, ◌∙◌, append_assoc, append-nil, length-append, drop}
 use Rattle.std.proofs.lemmas.List.{at_drop_all}
