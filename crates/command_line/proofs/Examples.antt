@@ -2,8 +2,9 @@
 use Rattle.std.proofs.Common.{◌≡◌, true, false, [], ◌∷◌, refl, codes}
 use Rattle.std.specs.Fmt.{digits}
 use Rattle.std.specs.Prelude.{Some, None}
-use Rattle.command_line.specs.Form.{walk, run, sites, walk_in, run_in, sites_in, form_of}
+use Rattle.command_line.specs.Form.{walk, run, build, sites, walk_in, run_in, build_in, sites_in, form_of}
 use Rattle.command_line.specs.Line.{line_from, value_from}
+use Rattle.word_isa.specs.declared.parts.Scheme.TheVariants.{Undo, Bank}
 
 -- options stand anywhere before `--`, and behind it every word is a place
 brief_first : form_of (codes "--brief" ∷ codes "run" ∷ codes "i" ∷ codes "w" ∷ []) ≡ Some (run (codes "i") (codes "w") true)
@@ -29,6 +30,18 @@ no_leading_zero = refl
 no_help : form_of (codes "--help" ∷ []) ≡ None
 unfolding form_of line_from value_from walk_in
 no_help = refl
+
+undo_is_built : form_of (codes "build" ∷ codes "a" ∷ []) ≡ Some (build (codes "a") Undo)
+unfolding form_of line_from value_from build_in
+undo_is_built = refl
+
+a_scheme_is_named : form_of (codes "build" ∷ codes "--scheme" ∷ codes "bank" ∷ codes "a" ∷ []) ≡ Some (build (codes "a") Bank)
+unfolding form_of line_from value_from build_in
+a_scheme_is_named = refl
+
+another_scheme : form_of (codes "build" ∷ codes "a" ∷ codes "--scheme=banks" ∷ []) ≡ None
+unfolding form_of line_from value_from build_in
+another_scheme = refl
 
 sites_of_a_program : form_of (codes "sites" ∷ codes "--" ∷ codes "--brief" ∷ []) ≡ Some (sites (codes "--brief"))
 unfolding form_of line_from value_from sites_in

@@ -5,11 +5,14 @@ use Rattle.std.specs.Str.Parse.{digits_value}
 use Rattle.command_line.specs.Line.{Line, line_of, Text}
 use Rattle.command_line.specs.declared.command.Command.{Command}
 use Rattle.command_line.specs.declared.command.Command.TheVariants as command
+use Rattle.word_isa.specs.declared.parts.Scheme.{Scheme}
+use Rattle.word_isa.specs.declared.parts.Scheme.TheVariants.{Undo, Bank}
 
 -- what is asked, with the names of files as texts
 pub data Form : Type 0 where
   walk : (program : Text) → (tasks : ℕ) → (world : Option Text) → Form
   run : (image world : Text) → (brief : Bool) → Form
+  build : (program : Text) → (scheme : Scheme) → Form
   sites : (program : Text) → Form
 
 infixl 10 ◌>>=◌
@@ -37,6 +40,18 @@ run_in args brief = if nat_lt 2 (length args) then None else do
   world ← slice_get args 1
   Some (run image world brief)
 
+-- a scheme by its name; `undo` where none is named
+abbrev pub scheme_of : Option Text → Option Scheme
+scheme_of None = Some Undo
+scheme_of (Some name) = if bytes_eq name (codes "undo") then Some Undo else if bytes_eq name (codes "bank") then Some Bank else None
+
+-- `build PROGRAM [--scheme undo|bank]`
+unfoldable pub build_in : List Text → Option Text → Option Form
+build_in args name = if nat_lt 1 (length args) then None else do
+  program ← slice_get args 0
+  scheme ← scheme_of name
+  Some (build program scheme)
+
 -- `sites PROGRAM`
 unfoldable pub sites_in : List Text → Option Form
 sites_in args = if nat_lt 1 (length args) then None else do
@@ -48,6 +63,7 @@ abbrev pub asked_by : Text → List Text → Bool → Option Text → Option For
 asked_by command args brief scheme =
     if bytes_eq command (codes "walk") then (if brief || is_some scheme then None else walk_in args)
     else if bytes_eq command (codes "run") then (if is_some scheme then None else run_in args brief)
+    else if bytes_eq command (codes "build") then (if brief then None else build_in args scheme)
     else if bytes_eq command (codes "sites") then (if is_some scheme || brief then None else sites_in args)
     else None
 
@@ -63,10 +79,12 @@ form_of words = line_of words >>= form_in
 abbrev pub seen : Command → Form
 seen (command.Walk program tasks world) = walk program.now tasks (option_map (λ s. s.now) world)
 seen (command.Run image world brief) = run image.now world.now brief
+seen (command.Build program scheme) = build program.now scheme
 seen (command.Sites program) = sites program.now
 
 -- a walk is of at most 1,000 tasks
 abbrev pub HasFewTasks : Command → Type 0
 HasFewTasks (command.Walk program tasks world) = tasks ≤ 1000
 HasFewTasks (command.Run image world brief) = Unit {0}
+HasFewTasks (command.Build program scheme) = Unit {0}
 HasFewTasks (command.Sites program) = Unit {0}

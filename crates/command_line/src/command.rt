@@ -1,5 +1,5 @@
 //! What a command line asks for: one row for each command; docs/COMMANDS.md lists them.
-ghost use Rattle.std.specs.Prelude.{◌≡◌, ◌≤◌, ℕ, map, slice_get, decimal, option_map, string_bytes, IfOk, IfSome, IfNone};
+ghost use Rattle.std.specs.Prelude.{◌≡◌, ◌≤◌, ℕ, Some, map, slice_get, decimal, option_map, string_bytes, IfOk, IfSome, IfNone};
 ghost use Rattle.command_line.specs.Line.{Line};
 ghost use Rattle.command_line.specs.Parsed.{IsLine};
 ghost use Rattle.command_line.specs.Form as spec;
@@ -7,6 +7,7 @@ ghost use Rattle.command_line.specs.Form as spec;
 use crate::line::{Words, read_words};
 use ease_base::{NoMemory, digits};
 use std::alloc::Global;
+use word_isa::Scheme;
 
 /// What a command line asks for, with the names of its files in the order of the words.
 #[derive(Clone, Copy, Debug, PartialEq, Eq)]
@@ -22,6 +23,11 @@ pub enum Command<'a> {
         image: &'a str,
         world: &'a str,
         brief: bool,
+    },
+    /// `build PROGRAM [--scheme undo|bank]`; `undo` where no scheme is named.
+    Build {
+        program: &'a str,
+        scheme: Scheme,
     },
     /// `sites PROGRAM`.
     Sites {
@@ -70,6 +76,12 @@ fn asked_by<'a>(command: &str, words: &Words<'a>) -> Option<Command<'a>>
         }
         return run_in(args, words.brief);
     }
+    if command == "build" {
+        if words.brief {
+            return None;
+        }
+        return build_in(args, words.scheme);
+    }
     if command == "sites" {
         if words.scheme.is_some() || words.brief {
             return None;
@@ -111,6 +123,42 @@ fn run_in<'a>(args: &[&'a str], brief: bool) -> Option<Command<'a>>
         world,
         brief,
     })
+}
+
+#[tactic(auto, unfolding(crate::specs::Form::build_in))]
+fn build_in<'a>(args: &[&'a str], name: Option<&'a str>) -> Option<Command<'a>>
+    ensures form { option_map spec.seen result ≡ spec.build_in (map (λ s. s.now) args.now) (option_map (λ s. s.now) name.entry) }
+    ensures few { IfSome result spec.HasFewTasks }
+{
+    if args.len() > 1 {
+        return None;
+    }
+    let program = text_at(args, 0)?;
+    let scheme = scheme_of(name)?;
+    Some(Command::Build { program, scheme })
+}
+
+// The scheme of a name; `undo` where none is named.
+fn scheme_of(name: Option<&str>) -> Option<Scheme>
+    ensures { result ≡ spec.scheme_of (option_map (λ s. s.now) name.entry) }
+{
+    match name {
+        None => Some(Scheme::Undo),
+        Some(name) => scheme_named(name),
+    }
+}
+
+// The scheme of a name.
+fn scheme_named(name: &str) -> Option<Scheme>
+    ensures { result ≡ spec.scheme_of (Some name.now) }
+{
+    if name == "undo" {
+        return Some(Scheme::Undo);
+    }
+    if name == "bank" {
+        return Some(Scheme::Bank);
+    }
+    None
 }
 
 #[tactic(auto, unfolding(crate::specs::Form::sites_in))]

@@ -33,11 +33,26 @@ fn text(alloc: Global, command: &Option<Command<'_>>) -> Result<String, AllocErr
             let brief = if *brief { " brief" } else { "" };
             format!(in alloc; "run {image} {world}{brief}")
         }
+        Some(Command::Build { program, scheme }) => format!(in alloc; "build {program} {scheme:?}"),
         Some(Command::Sites { program }) => format!(in alloc; "sites {program}"),
     }
 }
 
-static LINES: [(&str, &str); 106] = [
+static LINES: [(&str, &str); 115] = [
+    ("build|p", "build p Undo"),
+    ("build|-", "build - Undo"),
+    ("build|p|--scheme|undo", "build p Undo"),
+    ("build|p|--scheme=bank", "build p Bank"),
+    ("--scheme|bank|build|p", "build p Bank"),
+    ("build|--scheme|p|bank", "usage"),
+    ("build|p|--scheme", "usage"),
+    ("build|p|--scheme|Bank", "usage"),
+    ("build|p|--scheme|", "usage"),
+    ("build|p|--scheme|undo|--scheme|undo", "usage"),
+    ("build|p|--brief", "usage"),
+    ("build|p|q", "usage"),
+    ("build", "usage"),
+    ("build|--|--scheme", "build --scheme Undo"),
     ("walk|p|5", "walk p 5 ?"),
     ("walk|p|5|w", "walk p 5 w"),
     ("walk", "usage"),
@@ -66,12 +81,7 @@ static LINES: [(&str, &str); 106] = [
     ("sites|p|--brief", "usage"),
     ("--scheme|undo|sites|p", "usage"),
     ("site|p", "usage"),
-    ("build|p", "usage"),
-    ("build|p|--scheme|undo", "usage"),
-    ("build|p|--scheme=bank", "usage"),
-    ("--scheme|bank|build|p", "usage"),
-    ("build|--scheme|bank|p", "usage"),
-    ("build|p|--scheme", "usage"),
+    ("build|--scheme|bank|p", "build p Bank"),
     ("build|p|--scheme|--|undo", "usage"),
     ("run|i|w", "run i w"),
     ("run|i|w|--brief", "run i w brief"),

@@ -1,6 +1,6 @@
 -- From what the parts of a command answer to what the command says.
 use Rattle.std.proofs.Common.{◌≡◌, ℕ, ◌<◌, ◌≤◌, Bool, List, [], ◌∷◌, ◌++◌, length, take, Option, Some, None, Result, Ok, Err, IfOk, refl, sym, ap, subst, ◌∙◌, arith, inl, inr}
-use Rattle.command_line.specs.Form.{Form, walk, run, sites}
+use Rattle.command_line.specs.Form.{Form, walk, run, build, sites}
 use Rattle.devices.specs.declared.event.RunEnd.{RunEnd}
 use Rattle.devices.specs.declared.event.RunEnd.TheVariants as run_end
 use Rattle.devices.specs.declared.world.World.{World}
@@ -12,7 +12,7 @@ use Rattle.ease_cli.specs.Answer.{Answers, Tells, AreRead, IsRead, Reaches, Stop
 use Rattle.ease_cli.specs.Files.{Files, files_of, Kind, source_file, image_file, world_file, Wanted, named, named_if, wanted, limit_of, IsQuiet, IsUnbrought, failed, long}
 use Rattle.ease_cli.specs.Inputs.{Input, tree, image, world, refused_status, IsRefused}
 use Rattle.ease_cli.specs.Lines.{usage}
-use Rattle.ease_cli.specs.Output.{IsOutput, walks, runs, accounts, IsWalkOutput, IsRunOutput, IsAccount, walk_status, run_status}
+use Rattle.ease_cli.specs.Output.{IsOutput, walks, runs, builds, accounts, IsWalkOutput, IsRunOutput, IsBuilt, IsAccount, walk_status, run_status}
 use Rattle.ease_cli.specs.declared.refusal.Refusal.{Refusal}
 use Rattle.ease_cli.specs.declared.refusal.Refusal.TheVariants as refusal
 use Rattle.ease_cli.specs.declared.status.Status.{Status}
@@ -23,6 +23,7 @@ use Rattle.task_check.specs.CheckedForm.{core_of}
 use Rattle.walk_run.specs.declared.walked.WalkEnd.{WalkEnd}
 use Rattle.walk_run.specs.declared.walked.WalkEnd.TheVariants as walk_end
 use Rattle.word_isa.specs.declared.image.Image.{Image}
+use Rattle.word_isa.specs.declared.parts.Scheme.{Scheme}
 
 -- what is answered of less is answered of more
 pub answers_weaker : (P Q : Status → List ℕ → Type 0) (r : Result Status Refusal) (before after : Option (List ℕ)) → ((s : Status) (t : List ℕ) → P s t → Q s t) → Answers P r before after → Answers Q r before after
@@ -114,6 +115,13 @@ run_on f file named_world brief i w r before after quiet read second answers =
     answers_weaker (IsRunOutput i w brief) (Says (run file named_world brief) f) r before after
     (λ s t output. done (image i ∷ (world w ∷ [])) quiet (read, (second, tt)) (runs file named_world brief i w refl refl output)) answers
 
+-- `build`
+pub built_of : (f : Files) (program : List ℕ) (scheme : Scheme) (p : Program) (core : Core) (r : Result Status Refusal) (before after : Option (List ℕ))
+    → IsQuiet f → IsRead f (named source_file program) [] (tree p) → core ≡ core_of p → Answers (IsBuilt core scheme) r before after → Answers (Says (build program scheme) f) r before after
+built_of f program scheme p core r before after quiet read is answers =
+    answers_weaker (IsBuilt core scheme) (Says (build program scheme) f) r before after
+    (λ s t output. done (tree p ∷ []) quiet (read, tt) (builds program scheme p refl refl (subst (λ (c : Core). IsBuilt c scheme s t) is output))) answers
+
 -- `sites`
 pub sites_of : (f : Files) (program : List ℕ) (p : Program) (core : Core) (r : Result Status Refusal) (before after : Option (List ℕ))
     → IsQuiet f → IsRead f (named source_file program) [] (tree p) → core ≡ core_of p → Answers (IsAccount core p) r before after → Answers (Says (sites program) f) r before after
@@ -160,6 +168,7 @@ unbrought_speaks f name limit s t (long is line steady rose why) silent = subst 
 output_speaks : (c : Form) (inputs : List Input) (s : Status) (t : List ℕ) → IsOutput c inputs s t → IsSilent s → ⊥
 output_speaks c inputs s t (walks program tasks named p rest asked read output) silent = walk_speaks _ (subst IsSilent output.ended silent)
 output_speaks c inputs s t (runs file named brief i w asked read output) silent = run_speaks _ (subst IsSilent output.ended silent)
+output_speaks c inputs s t (builds program scheme p asked read output) silent = subst IsSilent output.ended silent
 output_speaks c inputs s t (accounts program p asked read output) silent = subst IsSilent output.ended silent
 
 stops_speak : (f : Files) (at : Wanted) (before : List Input) (s : Status) (t : List ℕ) → Stops f at before s t → IsSilent s → ⊥

@@ -1,6 +1,6 @@
 -- The files that a command names, and a cabinet while they are fetched.
 use Rattle.std.specs.Prelude.{◌≡◌, ◌⊎◌, ℕ, ◌<◌, ◌≤◌, Bool, IsTrue, List, [], ◌∷◌, length, Option, Some, None}
-use Rattle.command_line.specs.Form.{Form, walk, run, sites}
+use Rattle.command_line.specs.Form.{Form, walk, run, build, sites}
 use Rattle.ease_base.specs.Cabinet.{Contents, Brings, Lacks}
 use Rattle.ease_base.specs.Count.{HasRisen, raised}
 use Rattle.ease_cli.specs.declared.status.Status.{Status}
@@ -28,6 +28,7 @@ named_if kind (Some name) = named kind name ∷ []
 abbrev pub wanted : Form → List Wanted
 wanted (walk program tasks world) = named source_file program ∷ named_if world_file world
 wanted (run image world brief) = named image_file image ∷ (named world_file world ∷ [])
+wanted (build program scheme) = named source_file program ∷ []
 wanted (sites program) = named source_file program ∷ []
 
 -- the most bytes of a file

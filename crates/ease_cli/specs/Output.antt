@@ -1,13 +1,15 @@
 -- The output of each command over its inputs, with its status.
 use Rattle.std.specs.Prelude.{◌≡◌, ℕ, Bool, List, [], ◌∷◌, Option}
-use Rattle.command_line.specs.Form.{Form, walk, run, sites}
+use Rattle.command_line.specs.Form.{Form, walk, run, build, sites}
 use Rattle.devices.specs.declared.event.RunEnd.{RunEnd}
 use Rattle.devices.specs.declared.event.RunEnd.TheVariants as run_end
 use Rattle.devices.specs.declared.world.World.{World}
 use Rattle.ease_cli.specs.Inputs.{Input, tree, image, world}
 use Rattle.ease_cli.specs.declared.status.Status.{Status}
 use Rattle.ease_cli.specs.declared.status.Status.TheVariants.{Ok, Trapped, PowerEnded}
+use Rattle.image_file.specs.Bytes.{image_bytes}
 use Rattle.power_trace.specs.Run.{journal_on, report_on}
+use Rattle.run_plan.specs.PlanOf.{plan_of}
 use Rattle.site_account.specs.Account.{account_of}
 use Rattle.site_account.specs.Places.{program_places}
 use Rattle.task_ast.specs.declared.core_form.Core.{Core}
@@ -18,6 +20,8 @@ use Rattle.walk_run.specs.WalkText.{text_of}
 use Rattle.walk_run.specs.declared.walked.WalkEnd.{WalkEnd}
 use Rattle.walk_run.specs.declared.walked.WalkEnd.TheVariants as walk_end
 use Rattle.word_isa.specs.declared.image.Image.{Image}
+use Rattle.word_code.specs.CodeOf.{code_of}
+use Rattle.word_isa.specs.declared.parts.Scheme.{Scheme}
 
 -- the status of an unbroken run, by its end
 abbrev pub walk_status : WalkEnd → Status
@@ -42,6 +46,11 @@ pub record IsRunOutput (i : Image) (w : World) (brief : Bool) (status : Status) 
   pub ended : status ≡ run_status (journal_on i w).ending
   pub written : text ≡ report_on i w brief
 
+-- `build`: the bytes are those of the image of the plan's code
+pub record IsBuilt (core : Core) (scheme : Scheme) (status : Status) (text : List ℕ) : Type 0 where
+  pub ended : status ≡ Ok
+  pub written : text ≡ image_bytes (code_of (plan_of core scheme) core)
+
 -- `sites`: the text is the account of the checked form, with the places that its sites have in the tree
 pub record IsAccount (core : Core) (p : Program) (status : Status) (text : List ℕ) : Type 0 where
   pub ended : status ≡ Ok
@@ -60,5 +69,7 @@ pub data IsOutput (c : Form) (inputs : List Input) (status : Status) (text : Lis
       → IsWalkOutput (core_of p) (retained_of rest) tasks status text → IsOutput c inputs status text
   runs : (file named : List ℕ) (brief : Bool) (i : Image) (w : World) → c ≡ run file named brief → inputs ≡ image i ∷ (world w ∷ [])
       → IsRunOutput i w brief status text → IsOutput c inputs status text
+  builds : (program : List ℕ) (scheme : Scheme) (p : Program) → c ≡ build program scheme → inputs ≡ tree p ∷ []
+      → IsBuilt (core_of p) scheme status text → IsOutput c inputs status text
   accounts : (program : List ℕ) (p : Program) → c ≡ sites program → inputs ≡ tree p ∷ []
       → IsAccount (core_of p) p status text → IsOutput c inputs status text

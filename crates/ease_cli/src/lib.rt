@@ -1,6 +1,7 @@
 //! The commands of `ease`: words, files and output, with the theorem on the one public call.
 #![tactic(auto)]
 
+mod build_command;
 mod fetched;
 mod lines;
 mod readers;

@@ -7,6 +7,7 @@ ghost use Rattle.ease_cli.specs.Files.{files_of};
 ghost use Rattle.ease_cli.specs.Settled.{CanBeRead, Settles};
 ghost use Rattle.ease_cli.specs.declared.refusal.Refusal.TheVariants.{WriteFault};
 
+use crate::build_command::build_command;
 use crate::lines::USAGE;
 use crate::refusal::{Refusal, refuse};
 use crate::run_command::run_command;
@@ -96,6 +97,9 @@ fn carry_out<C: Cabinet, K: Sink>(
                 brief,
             },
         ) => run_command(alloc, image, world, brief, files, out),
+        Some(Command::Build { program, scheme }) => {
+            build_command(alloc, program, scheme, files, out)
+        }
         Some(Command::Sites { program }) => sites_command(alloc, program, files, out),
     }
 }

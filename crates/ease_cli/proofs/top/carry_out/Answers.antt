@@ -17,6 +17,10 @@ pub returns-in-Some-Run-clause-says : goal.returns-in-Some-Run-clause-says
 returns-in-Some-Run-clause-says g c =
     form_answers _ _ _ _ _ _ (ap (λ (x : Command). Some (seen x)) (sym c.in-Some-Run.field-0-is) ∙ ap (option_map seen) (sym c.in-Some-Run.is) ∙ c.in_ok-command_of.ensures.form) c.run_command.ensures.says
 
+pub returns-in-Some-Build-clause-says : goal.returns-in-Some-Build-clause-says
+returns-in-Some-Build-clause-says g c =
+    form_answers _ _ _ _ _ _ (ap (λ (x : Command). Some (seen x)) (sym c.in-Some-Build.field-0-is) ∙ ap (option_map seen) (sym c.in-Some-Build.is) ∙ c.in_ok-command_of.ensures.form) c.build_command.ensures.says
+
 pub returns-in-Some-Sites-clause-says : goal.returns-in-Some-Sites-clause-says
 returns-in-Some-Sites-clause-says g c =
     form_answers _ _ _ _ _ _ (ap (λ (x : Command). Some (seen x)) (sym c.in-Some-Sites.field-0-is) ∙ ap (option_map seen) (sym c.in-Some-Sites.is) ∙ c.in_ok-command_of.ensures.form) c.sites_command.ensures.says
