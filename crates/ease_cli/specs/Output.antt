@@ -20,7 +20,7 @@ use Rattle.walk_run.specs.WalkText.{text_of}
 use Rattle.walk_run.specs.declared.walked.WalkEnd.{WalkEnd}
 use Rattle.walk_run.specs.declared.walked.WalkEnd.TheVariants as walk_end
 use Rattle.word_isa.specs.declared.image.Image.{Image}
-use Rattle.word_code.specs.CodeOf.{code_of}
+use Rattle.word_code.specs.ImageOf.{IsImageOf}
 use Rattle.word_isa.specs.declared.parts.Scheme.{Scheme}
 
 -- the status of an unbroken run, by its end
@@ -46,10 +46,12 @@ pub record IsRunOutput (i : Image) (w : World) (brief : Bool) (status : Status) 
   pub ended : status ≡ run_status (journal_on i w).ending
   pub written : text ≡ report_on i w brief
 
--- `build`: the bytes are those of the image of the plan's code
+-- `build`: the bytes are those of an image with the code, the marks and the words of the plan of the checked form
 pub record IsBuilt (core : Core) (scheme : Scheme) (status : Status) (text : List ℕ) : Type 0 where
   pub ended : status ≡ Ok
-  pub written : text ≡ image_bytes (code_of (plan_of core scheme) core)
+  pub image : Image
+  pub lowered : IsImageOf (plan_of core scheme) core image
+  pub written : text ≡ image_bytes image
 
 -- `sites`: the text is the account of the checked form, with the places that its sites have in the tree
 pub record IsAccount (core : Core) (p : Program) (status : Status) (text : List ℕ) : Type 0 where

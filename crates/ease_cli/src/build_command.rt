@@ -1,12 +1,14 @@
 //! `build PROGRAM [--scheme undo|bank]`: the image of the program.
-ghost use Rattle.std.specs.Prelude.{◌≡◌, ◌⊎◌, ℕ, List, ◌≤◌, IsErrOf};
+ghost use Rattle.std.specs.Prelude.{◌≡◌, ◌⊎◌, ℕ, List, ◌≤◌, IfOk, IsErrOf};
 ghost use Rattle.command_line.specs.Form as form;
 ghost use Rattle.ease_base.specs.Count.{HasRisen, raised};
 ghost use Rattle.ease_cli.specs.Answer.{Answers, Says};
 ghost use Rattle.ease_cli.specs.Files.{files_of};
 ghost use Rattle.ease_cli.specs.Output.{IsBuilt};
 ghost use Rattle.ease_cli.specs.declared.refusal.Refusal.TheVariants.{WriteFault};
+ghost use Rattle.run_plan.specs.PlanOf.{plan_of};
 ghost use Rattle.task_ast.specs.WellFormed.{IsWellFormed};
+ghost use Rattle.word_code.specs.ImageOf.{IsImageOf};
 
 use crate::fetched::fetch_program;
 use crate::refusal::Refusal;
@@ -16,8 +18,8 @@ use image_file::write_image;
 use run_plan::plan;
 use std::alloc::Global;
 use task_ast::Core;
-use word_code::lower;
-use word_isa::Scheme;
+use word_code::{LowerError, lower};
+use word_isa::{Image, Scheme};
 
 /// Writes the bytes of the image of a program.
 pub fn build_command<C: Cabinet, K: Sink>(
@@ -55,9 +57,20 @@ fn write_built<K: Sink>(
     ensures out_steady { (IsErrOf result WriteFault → ⊥) → K.faults out.new ≡ K.faults out.old }
     ensures out_faults { K.faults out.old ≤ K.faults out.new }
 {
-    let plan = plan(alloc, core, scheme)?;
-    let image = lower(alloc, &plan, core)?;
+    let image = image_of(alloc, core, scheme)?;
     let bytes = write_image(alloc, &image)?;
     send_all(out, bytes.as_slice())?;
     Ok(Status::Ok)
+}
+
+// The image of a checked form.
+fn image_of(alloc: Global, core: &Core, scheme: Scheme) -> Result<Image, Refusal>
+    requires { IsWellFormed core.now }
+    ensures { IfOk result (IsImageOf (plan_of core.now scheme) core.now) }
+{
+    let plan = plan(alloc, core, scheme)?;
+    match lower(alloc, &plan, core) {
+        Ok(image) => Ok(image),
+        Err(LowerError::NoMemory) | Err(LowerError::Unfit) => Err(Refusal::NoMemory),
+    }
 }
