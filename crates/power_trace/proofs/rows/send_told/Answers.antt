@@ -1,7 +1,7 @@
 -- The line of a trap is written as one piece.
 use Rattle.std.proofs.Common.{◌∙◌, sym, ap}
 use Rattle.power_trace.specs.Run.{told_text}
-use Rattle.power_trace.proofs.WayLemmas.{sent}
+use Rattle.power_trace.specs.Way.{sent}
 use Rattle.power_trace.proofs.rows.send_told.Goals as goal
 
 pub returns-in-Trapped : goal.returns-in-Trapped
