@@ -1,5 +1,4 @@
 mod Examples
-mod LineLemmas
 mod NameLemmas
 mod PlaceLemmas
 mod ReportLemmas
@@ -7,4 +6,3 @@ mod RowLemmas
 mod RunExamples
 mod RunLemmas
 mod ShortLemmas
-mod WayLemmas

@@ -5,7 +5,7 @@ use Rattle.devices.specs.Readings.{Series, values_of}
 use Rattle.devices.specs.declared.event.RunEnd.{RunEnd}
 use Rattle.devices.specs.declared.world.PowerRow.{PowerRow}
 use Rattle.ease_base.specs.Sink.{extended, TookFront}
-use Rattle.power_trace.proofs.WayLemmas.{IsOnWay, extended_more, front_of}
+use Rattle.power_trace.specs.Way.{IsOnWay, extended_more, front_of}
 use Rattle.power_trace.specs.Report.{style_of, place_in, boots_lines, end_text, line, report}
 use Rattle.power_trace.specs.Run.{Prepared, program_in, report_from}
 use Rattle.power_trace.specs.Writing.{Wrote}

@@ -4,7 +4,7 @@ use Rattle.std.proofs.Common.{◌≡◌, ◌∙◌, ℕ, zero, suc, ◌+◌, ◌
 use Rattle.devices.specs.Journal.{Place, JournalEvent}
 use Rattle.devices.specs.declared.event.Event.{Event}
 use Rattle.devices.specs.declared.event.RunEnd.{RunEnd}
-use Rattle.power_trace.proofs.WayLemmas.{IsOnWay, way_begins, way_goes, way_ends}
+use Rattle.power_trace.specs.Way.{IsOnWay, way_begins, way_goes, way_ends}
 use Rattle.power_trace.specs.Report.{Style, style_of, place_in, event_lines, event_text, line}
 use Rattle.power_trace.specs.Run.{told_text, end_told, end_in}
 use Rattle.power_trace.specs.Writing.{Wrote}

@@ -8,7 +8,7 @@ use Rattle.devices.specs.declared.event.RunEnd.{RunEnd}
 use Rattle.devices.specs.declared.event.RunEnd.TheVariants as ended
 use Rattle.devices.specs.declared.world.PowerRow.{PowerRow}
 use Rattle.power_trace.proofs.RowLemmas.{goes_on, ended_stays, ended_does, IsRowDone}
-use Rattle.power_trace.proofs.WayLemmas.{IsOnWay, way_begins, way_goes, way_ends}
+use Rattle.power_trace.specs.Way.{IsOnWay, way_begins, way_goes, way_ends}
 use Rattle.power_trace.specs.Report.{style_of, place_in, event_lines, boots_lines, number, line}
 use Rattle.power_trace.specs.Run.{end_in}
 use Rattle.power_trace.specs.Writing.{Wrote}

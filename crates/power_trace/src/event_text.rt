@@ -15,7 +15,7 @@ use task_ast::Kind;
 use word_isa::{Image, Symbol};
 
 /// Puts the text of an event behind, with the names of the image; in brief a look has no time.
-#[tactic(auto, using(crate::proofs::LineLemmas::put_more, crate::proofs::ShortLemmas::place_words, crate::proofs::ShortLemmas::args_words))]
+#[tactic(auto, using(crate::specs::LineLaws::put_more, crate::proofs::ShortLemmas::place_words, crate::proofs::ShortLemmas::args_words))]
 pub fn put_event(line: &mut Line, image: &Image, brief: bool, event: Event)
     ensures text { IsPut line.old line.new (spec.event_text (spec.style_of image.now brief) (placed (spec.place_in image.now) event)) }
     ensures words { HasWords (placed (spec.place_in image.now) event) }
@@ -45,7 +45,7 @@ pub fn put_event(line: &mut Line, image: &Image, brief: bool, event: Event)
 }
 
 /// Puts a word and a number behind it.
-#[tactic(auto, using(crate::proofs::LineLemmas::put_more))]
+#[tactic(auto, using(crate::specs::LineLaws::put_more))]
 pub fn put_named(line: &mut Line, word: &[u8], n: u32)
     ensures { IsPut line.old line.new (word.now ++ spec.number n) }
 {
@@ -54,7 +54,7 @@ pub fn put_named(line: &mut Line, word: &[u8], n: u32)
 }
 
 // Puts a number behind a space.
-#[tactic(auto, using(crate::proofs::LineLemmas::put_more))]
+#[tactic(auto, using(crate::specs::LineLaws::put_more))]
 fn put_field(line: &mut Line, n: u32)
     ensures { IsPut line.old line.new (spec.number n) }
 {
@@ -63,7 +63,7 @@ fn put_field(line: &mut Line, n: u32)
 }
 
 // Puts a look, without its time in brief.
-#[tactic(auto, using(crate::proofs::LineLemmas::put_more))]
+#[tactic(auto, using(crate::specs::LineLaws::put_more))]
 fn put_look(line: &mut Line, brief: bool, site: u8, time: u32)
     ensures { IsPut line.old line.new (spec.look_text brief site time) }
 {
@@ -74,7 +74,7 @@ fn put_look(line: &mut Line, brief: bool, site: u8, time: u32)
 }
 
 // Puts an issue: its site, the peripheral's name, the arguments and the reading.
-#[tactic(auto, using(crate::proofs::LineLemmas::put_more))]
+#[tactic(auto, using(crate::specs::LineLaws::put_more))]
 fn put_issue(
     line: &mut Line,
     peripherals: &[Peripheral],
@@ -94,7 +94,7 @@ fn put_issue(
 }
 
 // Puts the name of a peripheral, or its number behind `#` where no peripheral of the image has it.
-#[tactic(auto, using(crate::proofs::LineLemmas::put_more))]
+#[tactic(auto, using(crate::specs::LineLaws::put_more))]
 fn put_peripheral(line: &mut Line, peripherals: &[Peripheral], number: u8)
     ensures { IsPut line.old line.new (spec.peripheral_name peripherals.now number) }
 {
@@ -114,7 +114,7 @@ fn put_peripheral(line: &mut Line, peripherals: &[Peripheral], number: u8)
 }
 
 // Puts the arguments, each behind a space.
-#[tactic(auto, using(crate::proofs::LineLemmas::put_more))]
+#[tactic(auto, using(crate::specs::LineLaws::put_more))]
 fn put_args(line: &mut Line, args: Args)
     ensures { IsPut line.old line.new (flat_map spec.number (arguments_of args)) }
 {
@@ -124,7 +124,7 @@ fn put_args(line: &mut Line, args: Args)
 }
 
 // Puts numbers, each behind a space.
-#[tactic(auto, using(crate::proofs::LineLemmas::put_more))]
+#[tactic(auto, using(crate::specs::LineLaws::put_more))]
 fn put_words(line: &mut Line, words: &[u32])
     ensures { IsPut line.old line.new (flat_map spec.number words.now) }
 {
@@ -138,7 +138,7 @@ fn put_words(line: &mut Line, words: &[u32])
 }
 
 // Puts a copy: its site, both ends and the number of words.
-#[tactic(auto, using(crate::proofs::LineLemmas::put_more))]
+#[tactic(auto, using(crate::specs::LineLaws::put_more))]
 fn put_copy(line: &mut Line, image: &Image, site: u8, from: u32, to: u32, words: u32)
     ensures { IsPut line.old line.new (codes "copy" ++ spec.number site ++ codes " " ++ spec.place_text image.now.symbols (spec.place_in image.now from)
         ++ codes " " ++ spec.place_text image.now.symbols (spec.place_in image.now to) ++ spec.number words) }
@@ -152,7 +152,7 @@ fn put_copy(line: &mut Line, image: &Image, site: u8, from: u32, to: u32, words:
 }
 
 // Puts the place of an address, by the image's symbols and kept words.
-#[tactic(auto, using(crate::proofs::LineLemmas::put_more))]
+#[tactic(auto, using(crate::specs::LineLaws::put_more))]
 fn put_place(line: &mut Line, image: &Image, at: u32)
     ensures { IsPut line.old line.new (spec.place_text image.now.symbols (spec.place_in image.now at)) }
 {
@@ -167,7 +167,7 @@ fn put_place(line: &mut Line, image: &Image, at: u32)
 }
 
 // The same by the symbols from here on.
-#[tactic(auto, using(crate::proofs::LineLemmas::put_more))]
+#[tactic(auto, using(crate::specs::LineLaws::put_more))]
 fn put_place_of(
     line: &mut Line,
     symbols: &[Symbol],
@@ -188,7 +188,7 @@ fn put_place_of(
 }
 
 // Puts `keep` where the address is one of the kept words, and else `@` and the address.
-#[tactic(auto, using(crate::proofs::LineLemmas::put_more))]
+#[tactic(auto, using(crate::specs::LineLaws::put_more))]
 fn put_bare(line: &mut Line, keep: u16, keep_words: u16, at: u32)
     ensures { IsPut line.old line.new (spec.place_text [] (kept_or_bare (span keep keep_words) at)) }
 {
@@ -201,7 +201,7 @@ fn put_bare(line: &mut Line, keep: u16, keep_words: u16, at: u32)
 }
 
 // Puts a word of a symbol as `NAME[I]`.
-#[tactic(auto, using(crate::proofs::LineLemmas::put_more))]
+#[tactic(auto, using(crate::specs::LineLaws::put_more))]
 fn put_cell(line: &mut Line, name: &[u8], index: u32)
     ensures { IsPut line.old line.new (name.now ++ codes "[" ++ decimal index ++ codes "]") }
 {

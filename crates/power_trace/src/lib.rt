@@ -14,6 +14,8 @@ mod world_run;
 pub use error::RunError;
 pub use laws::a_line_has_at_most_256_bytes;
 pub use line::Line;
+pub use live::Live;
 pub use report_line::{boot_line, end_line, event_line, trap_line};
+pub use rows::send_told;
 pub use runner::Runner;
 pub use world_run::run;

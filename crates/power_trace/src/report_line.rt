@@ -58,7 +58,7 @@ pub fn end_line(brief: bool, steps: u32, end: RunEnd) -> Line
 }
 
 // Puts how a run ended.
-#[tactic(auto, using(crate::proofs::LineLemmas::put_more))]
+#[tactic(auto, using(crate::specs::LineLaws::put_more))]
 fn put_end(line: &mut Line, end: RunEnd)
     ensures text { IsPut line.old line.new (spec.end_text end) }
     ensures words { IsWordEnd end }
@@ -71,7 +71,7 @@ fn put_end(line: &mut Line, end: RunEnd)
 }
 
 // Puts the number of steps done and a space, but in brief nothing.
-#[tactic(auto, using(crate::proofs::LineLemmas::put_more))]
+#[tactic(auto, using(crate::specs::LineLaws::put_more))]
 fn put_head(line: &mut Line, brief: bool, steps: u32)
     ensures { IsPut line.old line.new (if brief then [] else decimal steps ++ codes " ") }
 {

@@ -75,8 +75,8 @@ fn run_row<K: Sink>(
     Ok(None)
 }
 
-// Writes the line of what a step answers, if it has one.
-fn send_told<K: Sink>(
+/// Writes the line of what a step answers, if it has one.
+pub fn send_told<K: Sink>(
     image: &Image,
     brief: bool,
     step: u32,

@@ -4,7 +4,7 @@ use Rattle.std.proofs.Common.{subst}
 use Rattle.ease_base.specs.declared.place.Peripheral.{Peripheral}
 use Rattle.power_trace.specs.Put.{IsPut}
 use Rattle.power_trace.specs.Report.{peripheral_name}
-use Rattle.power_trace.proofs.LineLemmas.{put_more, nothing_left}
+use Rattle.power_trace.specs.LineLaws.{put_more, nothing_left}
 use Rattle.power_trace.proofs.event_text.+put_peripheral.Goals as goal
 
 pub returns-in-None : goal.returns-in-None

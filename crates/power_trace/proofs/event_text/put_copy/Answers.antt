@@ -3,7 +3,7 @@ use Rattle.std.specs.Prelude.{codes, ◌++◌}
 use Rattle.std.proofs.Common.{subst}
 use Rattle.power_trace.specs.Put.{IsPut}
 use Rattle.power_trace.specs.Report.{number, place_text, place_in}
-use Rattle.power_trace.proofs.LineLemmas.{six_puts}
+use Rattle.power_trace.specs.LineLaws.{six_puts}
 use Rattle.power_trace.proofs.event_text.put_copy.Goals as goal
 
 pub returns : goal.returns

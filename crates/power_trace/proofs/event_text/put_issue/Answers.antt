@@ -5,7 +5,7 @@ use Rattle.std.specs.List.{flat_map}
 use Rattle.devices.specs.Journal.{arguments_of}
 use Rattle.power_trace.specs.Put.{IsPut}
 use Rattle.power_trace.specs.Report.{number, peripheral_name}
-use Rattle.power_trace.proofs.LineLemmas.{six_puts}
+use Rattle.power_trace.specs.LineLaws.{six_puts}
 use Rattle.power_trace.proofs.event_text.put_issue.Goals as goal
 
 pub returns : goal.returns

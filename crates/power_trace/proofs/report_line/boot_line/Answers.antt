@@ -3,7 +3,7 @@ use Rattle.std.specs.Prelude.{codes, decimal, ◌++◌, if◌then◌else◌}
 use Rattle.std.proofs.Common.{[], subst}
 use Rattle.power_trace.specs.Put.{IsPut}
 use Rattle.power_trace.specs.Report.{style_of, number}
-use Rattle.power_trace.proofs.LineLemmas.{put_more, line_put}
+use Rattle.power_trace.specs.LineLaws.{put_more, line_put}
 use Rattle.power_trace.proofs.ShortLemmas.{boot_line_short}
 use Rattle.power_trace.proofs.report_line.boot_line.Goals as goal
 

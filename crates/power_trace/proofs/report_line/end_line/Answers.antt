@@ -3,7 +3,7 @@ use Rattle.std.specs.Prelude.{codes, decimal, ◌++◌, if◌then◌else◌}
 use Rattle.std.proofs.Common.{[], subst}
 use Rattle.power_trace.specs.Put.{IsPut}
 use Rattle.power_trace.specs.Report.{style_of, end_text}
-use Rattle.power_trace.proofs.LineLemmas.{line_put}
+use Rattle.power_trace.specs.LineLaws.{line_put}
 use Rattle.power_trace.proofs.ShortLemmas.{end_line_short}
 use Rattle.power_trace.proofs.report_line.end_line.Goals as goal
 

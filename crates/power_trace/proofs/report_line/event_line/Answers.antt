@@ -5,7 +5,7 @@ use Rattle.devices.specs.Journal.{placed}
 use Rattle.power_trace.specs.Put.{IsPut}
 use Rattle.power_trace.specs.Report.{style_of, place_in, event_text, line}
 use Rattle.power_trace.specs.Short.{AreShort}
-use Rattle.power_trace.proofs.LineLemmas.{put_more, put_whole}
+use Rattle.power_trace.specs.LineLaws.{put_more, put_whole}
 use Rattle.power_trace.proofs.NameLemmas.{symbols_short, peripherals_short}
 use Rattle.power_trace.proofs.ShortLemmas.{event_line_short}
 use Rattle.power_trace.proofs.report_line.event_line.Goals as goal

@@ -1,7 +1,7 @@
 -- Step by step.
 use Rattle.std.proofs.Common.{◌≡◌, suc, ◌+◌, ◌-◌, ◌∙◌, sym, arith}
 use Rattle.power_trace.proofs.RowLemmas.{way_opens, row_on, row_ends, row_over}
-use Rattle.power_trace.proofs.WayLemmas.{way_fails, broke}
+use Rattle.power_trace.specs.Way.{way_fails, broke}
 use Rattle.power_trace.proofs.rows.run_row.Goals as goal
 
 pub returns-in_err-send_told-clause-text : goal.returns-in_err-send_told-clause-text

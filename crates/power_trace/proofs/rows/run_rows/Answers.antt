@@ -5,7 +5,7 @@ use Rattle.ease_base.specs.Sink.{extended, TookFront}
 use Rattle.devices.specs.declared.world.PowerRow.{PowerRow}
 use Rattle.power_trace.proofs.RowLemmas.{IsRowDone}
 use Rattle.power_trace.proofs.RunLemmas.{IsInRun, first_line, row_lines, way_boots, way_row, run_on, run_ends, run_over, next_row, row_as, fail_room}
-use Rattle.power_trace.proofs.WayLemmas.{way_fails, broke}
+use Rattle.power_trace.specs.Way.{way_fails, broke}
 use Rattle.power_trace.specs.Live.{state_of, program_in_live}
 use Rattle.power_trace.specs.Writing.{Wrote, BrokeOff}
 use Rattle.power_trace.proofs.rows.run_rows.Goals as goal

@@ -1,7 +1,7 @@
 -- The answer is a trap, and its line is written.
 use Rattle.std.proofs.Common.{ap, sym}
 use Rattle.power_trace.specs.Run.{told_text}
-use Rattle.power_trace.proofs.WayLemmas.{written_as}
+use Rattle.power_trace.specs.Way.{written_as}
 use Rattle.power_trace.proofs.rows.send_told.Goals as goal
 
 pub returns-in-Trapped : goal.returns-in-Trapped

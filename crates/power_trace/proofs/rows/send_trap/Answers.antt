@@ -1,6 +1,6 @@
 -- The line of a trap is written as one piece.
 use Rattle.std.proofs.Common.{◌∙◌}
-use Rattle.power_trace.proofs.WayLemmas.{sent}
+use Rattle.power_trace.specs.Way.{sent}
 use Rattle.power_trace.proofs.rows.send_trap.Goals as goal
 
 pub returns : goal.returns

@@ -1,6 +1,6 @@
 -- What fits is put behind the bytes so far.
 use Rattle.std.proofs.Common.{◌+◌, ◌-◌}
-use Rattle.power_trace.proofs.LineLemmas.{put_fits}
+use Rattle.power_trace.specs.LineLaws.{put_fits}
 use Rattle.power_trace.proofs.line.Line.put.Goals as goal
 
 pub returns : goal.returns

@@ -1,0 +1,12 @@
+mod DebuggerLemmas
+mod GoLemmas
+mod PastLemmas
+mod PlayLemmas
+mod SendLemmas
+mod SlotLemmas
+mod StepLemmas
+mod TableLemmas
+mod WordLemmas
+mod TableWords
+mod ScriptLemmas
+mod GrammarLemmas

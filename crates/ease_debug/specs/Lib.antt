@@ -1,0 +1,9 @@
+pub mod Commands
+pub mod Past
+pub mod Reading
+pub mod Session
+pub mod Shown
+pub mod Standing
+pub mod Stopping
+pub mod Trails
+pub mod Words
