@@ -1,0 +1,12 @@
+-- Fewer than all words.
+use Rattle.std.specs.Prelude.{length}
+use Rattle.std.proofs.Common.{arith, ap}
+use Rattle.word_code.proofs.BeginLemmas.{home_few, home_at}
+use Rattle.word_code.proofs.beginnings.home_count.Goals as goal
+
+pub overflow_add-count : goal.overflow_add-count
+overflow_add-count c =
+    omega (arith, c.arrays.invariant, home_few c.args.arrays.now, c.requires, home_at c.args.arrays.now c.arrays.array-index c.array-item.result c.arrays-test.true c.array-item.is, ap length c.home_words.ensures)
+
+pub returns-clause-few : goal.returns-clause-few
+returns-clause-few c = omega (arith, c.arrays.invariant, home_few c.args.arrays.now, c.requires)

@@ -1,0 +1,14 @@
+pub mod ActCode
+pub mod ActLaws
+pub mod Acts
+pub mod Beginnings
+pub mod CodeOf
+pub mod Finding
+pub mod Fitting
+pub mod Frames
+pub mod Heads
+pub mod ImageOf
+pub mod Repeats
+pub mod Sizes
+pub mod Tables
+pub mod Values
