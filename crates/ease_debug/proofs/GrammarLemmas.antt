@@ -4,7 +4,7 @@ use Rattle.std.specs.Prelude.{Result, Ok, Err, IsErr, IfErr, codes, decimal, nat
 use Rattle.std.specs.List.{position, list_any}
 use Rattle.std.specs.Option.{option_map}
 use Rattle.std.specs.Str.{bytes_eq}
-use Rattle.std.proofs.Common.{◌≡◌, ◌∙◌, ℕ, zero, suc, ◌+◌, ◌-◌, ◌<◌, ◌≤◌, ◌^◌, Bool, true, false, List, [], ◌∷◌, length, take, get_or, Option, Some, None, refl, sym, ap, subst, inl, inr, arith}
+use Rattle.std.proofs.Common.{All, IsTrue, ◌≡◌, ◌∙◌, ℕ, zero, suc, ◌+◌, ◌-◌, ◌<◌, ◌≤◌, ◌^◌, Bool, true, false, List, [], ◌∷◌, length, take, get_or, Option, Some, None, refl, sym, ap, subst, inl, inr, arith}
 use Rattle.std.proofs.lemmas.Bool.Decides.{nat_tests}
 use Rattle.std.proofs.lemmas.Slice.Eq.{bytes_eq-Decides}
 use Rattle.ease_debug.proofs.WordLemmas.{number_of_digits, digits_of_number}
@@ -305,3 +305,17 @@ pub err_first : (image : Image) (lines : List (List ℕ)) (e : ScriptError) (res
 err_first image lines e (Ok s) reads failed = tt
 err_first image lines (fails.Line n) (Err x) reads failed = subst (TellsFirst image lines) (sym failed.1) (tells_first image lines n reads)
 err_first image lines fails.NoMemory (Err x) reads failed = subst (TellsFirst image lines) (sym failed.1) tt
+
+all_behind : (image : Image) (c : Command) (rest : List Command) → IsTrue (accepts image c) → All (λ (x : Command). IsTrue (accepts image x)) rest → All (λ (x : Command). IsTrue (accepts image x)) (c ∷ rest)
+all_behind image c rest first others zero d within = first
+all_behind image c rest first others (suc k) d within = others k d (omega (arith, within))
+
+-- the commands of a script may all be given
+pub are_accepted : (image : Image) (lines : List (List ℕ)) (cs : List Command) → AreCommands image lines cs → All (λ (x : Command). IsTrue (accepts image x)) cs
+are_accepted image [] cs are = subst (λ xs. All (λ (x : Command). IsTrue (accepts image x)) xs) (sym are) (λ k d within. absurd (omega (arith, within)))
+are_accepted image ([] ∷ lines) cs are = are_accepted image lines cs are
+are_accepted image ((b ∷ line) ∷ lines) cs are =
+    subst (λ xs. All (λ (x : Command). IsTrue (accepts image x)) xs) (sym are.2) (all_behind image are.0 are.1 are.3.accepted (are_accepted image lines are.1 are.4))
+
+pub read_accepted : (image : Image) (lines : List (List ℕ)) (read : List Command) → script_of image 0 lines ≡ Ok read → All (λ (x : Command). IsTrue (accepts image x)) read
+read_accepted image lines read e = are_accepted image lines read (read_found image lines read e)

@@ -1,6 +1,6 @@
 //! A script, line by line.
-ghost use Rattle.std.specs.Prelude.{List, IfOk, IfErr};
-ghost use Rattle.ease_debug.specs.Commands.{lines_of, AreCommands, ReadsAs, TellsFirst};
+ghost use Rattle.std.specs.Prelude.{List, All, IsTrue, IfOk, IfErr};
+ghost use Rattle.ease_debug.specs.Commands.{accepts, lines_of, AreCommands, ReadsAs, TellsFirst};
 ghost use Rattle.ease_debug.specs.Reading as spec;
 ghost use Rattle.ease_debug.specs.Words.{rest_of};
 ghost use Rattle.ease_debug.specs.declared.command.Command.{Command};
@@ -55,6 +55,8 @@ fn read_line(
 pub fn read_script(alloc: Global, bytes: &[u8], image: &Image) -> Result<Script, ScriptError>
     // what is read are the commands of the lines
     ensures found { IfOk result (λ script. AreCommands image.now (lines_of bytes.now) script.lines) }
+    // each of them may be given for the image
+    ensures accepted { IfOk result (λ script. All (λ (c : Command). IsTrue (accepts image.now c)) script.lines) }
     // no script is refused, and none is read otherwise
     ensures only { (commands : List Command) → AreCommands image.now (lines_of bytes.now) commands → ReadsAs commands result }
     // the line that is told is the first that may not stand

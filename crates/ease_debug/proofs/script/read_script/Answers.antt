@@ -1,6 +1,6 @@
 -- What the lines give is the script.
 use Rattle.ease_debug.specs.Commands.{lines_of}
-use Rattle.ease_debug.proofs.GrammarLemmas.{read_found, read_only, err_only, err_first}
+use Rattle.ease_debug.proofs.GrammarLemmas.{read_accepted, read_found, read_only, err_only, err_first}
 use Rattle.ease_debug.proofs.script.read_script.Goals as goal
 
 pub returns-in_err-lines-clause-only : goal.returns-in_err-lines-clause-only
@@ -14,3 +14,6 @@ returns-clause-found c = read_found c.args.image.now (lines_of c.args.bytes.now)
 
 pub returns-clause-only : goal.returns-clause-only
 returns-clause-only c = λ commands are. read_only c.args.image.now (lines_of c.args.bytes.now) _ commands c.in_ok-lines.ensures.read are
+
+pub returns-clause-accepted : goal.returns-clause-accepted
+returns-clause-accepted c = read_accepted c.args.image.now (lines_of c.args.bytes.now) _ c.in_ok-lines.ensures.read
