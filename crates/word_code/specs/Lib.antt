@@ -4,6 +4,7 @@ pub mod Acts
 pub mod Beginnings
 pub mod CodeOf
 pub mod Finding
+pub mod FitPlan
 pub mod Fitting
 pub mod Frames
 pub mod Heads

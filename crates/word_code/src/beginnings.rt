@@ -123,8 +123,8 @@ fn volatile_words(array: &Array) -> &[u32]
     }
 }
 
-// The words of an array where it is nonvolatile and isn't constant, and none else.
-fn home_words(array: &Array) -> &[u32]
+/// The words of an array where it is nonvolatile and isn't constant, and none else.
+pub fn home_words(array: &Array) -> &[u32]
     ensures { result.now ≡ spec.home_words array.now.kind array.now.first }
 {
     match array.kind {

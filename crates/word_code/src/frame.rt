@@ -79,20 +79,20 @@ impl<'a> Frame<'a> {
     {
         let sites = self.task.sites.as_slice();
         let earlier = (site as usize - 1).min(sites.len());
-        kept_behind(&sites[..earlier])
+        7042 + kept_in(&sites[..earlier])
     }
 }
 
-// Where the kept words of these sites end.
-fn kept_behind(sites: &[Site]) -> u16
+/// The words that these sites keep.
+pub fn kept_in(sites: &[Site]) -> u16
     requires { sum_by site_words sites.now ≤ 16384 }
-    ensures { result ≡ 7042 + sum_by site_words sites.now }
+    ensures { result ≡ sum_by site_words sites.now }
 {
-    let mut at = 7042;
+    let mut words = 0;
     'sites: for site in sites {
-        at += kept_words(*site);
+        words += kept_words(*site);
     }
-    at
+    words
 }
 
 // The words that a site keeps, which only a copy does.

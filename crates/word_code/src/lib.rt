@@ -1,17 +1,22 @@
-//! The code of a plan: the words of its acts, and their marks.
+//! The code of a plan: the words of its acts, their marks, and the image that holds them.
 #![tactic(auto)]
 
 mod act_lines;
 mod beginnings;
+mod error;
 mod finding;
 mod frame;
 mod heads;
+mod image;
+mod job;
+mod lines;
+mod parts;
 mod simple;
 mod sizes;
 mod tables;
+mod tasks;
+mod tested;
 mod values;
 
-pub use act_lines::{Ahead, acts};
-pub use frame::Frame;
-pub use heads::head;
-pub use sizes::acts_size;
+pub use error::LowerError;
+pub use image::lower;

@@ -1,0 +1,7 @@
+-- What is there with what is left is all.
+use Rattle.std.proofs.Common.{◌≡◌, ◌++◌, drop}
+use Rattle.word_code.specs.CodeOf.{words_of}
+use Rattle.word_code.proofs.lines.words_of.Given as goal
+
+abbrev pub invariant-lines : goal.invariant-lines
+invariant-lines l = l.words ++ words_of (drop l.line-index l.lines) ≡ words_of l.lines
