@@ -15,6 +15,7 @@ use crate::refusal::Refusal;
 use crate::status::Status;
 use ease_base::{Cabinet, Sink, send_all};
 use image_file::write_image;
+use plan_fits::every_plan_fits;
 use run_plan::plan;
 use std::alloc::Global;
 use task_ast::Core;
@@ -68,6 +69,7 @@ fn image_of(alloc: Global, core: &Core, scheme: Scheme) -> Result<Image, Refusal
     requires { IsWellFormed core.now }
     ensures { IfOk result (IsImageOf (plan_of core.now scheme) core.now) }
 {
+    every_plan_fits(core, scheme);
     let plan = plan(alloc, core, scheme)?;
     match lower(alloc, &plan, core) {
         Ok(image) => Ok(image),

@@ -1,0 +1,3 @@
+mod StatementFits
+mod ActFits
+mod PlanFits
