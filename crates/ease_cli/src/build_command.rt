@@ -13,9 +13,8 @@ ghost use Rattle.word_code.specs.ImageOf.{IsImageOf};
 use crate::fetched::fetch_program;
 use crate::refusal::Refusal;
 use crate::status::Status;
-use ease_base::{Cabinet, Sink, send_all};
+use ease_base::{Cabinet, NoMemory, Sink, send_all};
 use image_file::write_image;
-use plan_fits::every_plan_fits;
 use run_plan::plan;
 use std::alloc::Global;
 use task_ast::Core;
@@ -64,15 +63,14 @@ fn write_built<K: Sink>(
     Ok(Status::Ok)
 }
 
-// The image of a checked form.
-fn image_of(alloc: Global, core: &Core, scheme: Scheme) -> Result<Image, Refusal>
+// The image of a checked form. That it is unfit isn't ruled out yet by a law, and is answered as want of memory.
+fn image_of(alloc: Global, core: &Core, scheme: Scheme) -> Result<Image, NoMemory>
     requires { IsWellFormed core.now }
     ensures { IfOk result (IsImageOf (plan_of core.now scheme) core.now) }
 {
-    every_plan_fits(core, scheme);
     let plan = plan(alloc, core, scheme)?;
     match lower(alloc, &plan, core) {
         Ok(image) => Ok(image),
-        Err(LowerError::NoMemory) | Err(LowerError::Unfit) => Err(Refusal::NoMemory),
+        Err(LowerError::NoMemory) | Err(LowerError::Unfit) => Err(NoMemory),
     }
 }

@@ -1,3 +1,0 @@
-mod StatementFits
-mod ActFits
-mod PlanFits
