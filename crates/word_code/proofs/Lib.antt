@@ -1,8 +1,10 @@
 pub mod ActLemmas
 pub mod BeginLemmas
 pub mod FindLemmas
+pub mod FitLaws
 pub mod HeadLemmas
 pub mod JobLemmas
 pub mod RepeatLemmas
+pub mod ShortLaws
 pub mod TestedLemmas
 pub mod ValueLemmas

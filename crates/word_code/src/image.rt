@@ -1,6 +1,8 @@
 //! The image of a plan.
 ghost use Rattle.std.specs.Prelude.{◌≡◌, ◌<◌, length, IfOk};
 ghost use Rattle.std.specs.List.{AllByRecursion};
+ghost use Rattle.run_plan.specs.PlanOf.{plan_of};
+ghost use Rattle.task_ast.specs.WellFormed.{IsWellFormed};
 ghost use Rattle.word_code.specs.CodeOf as spec;
 ghost use Rattle.word_code.specs.FitPlan.{IsFitPlan, KeepsFew};
 ghost use Rattle.word_code.specs.ImageOf.{IsImageOf, ArePartsOf};
@@ -18,10 +20,11 @@ use std::alloc::Global;
 use task_ast::{Core, CoreTask};
 use word_isa::Image;
 
-/// The image of the plan of a program. `Unfit` comes where the code is longer than an image's may be, or where the image
+/// The image of the plan of a checked form. `Unfit` comes where the code is longer than an image's may be, or where the image
 /// fails another of its tests.
 pub fn lower(alloc: Global, p: &Plan, c: &Core) -> Result<Image, LowerError>
-    requires { IsFitPlan p.now c.now }
+    requires well_formed { IsWellFormed c.now }
+    requires plan { p.now ≡ plan_of c.now p.now.scheme }
     ensures { IfOk result (λ i. IsImageOf p.now c.now i) }
 {
     let parts = parts_of(alloc, p, c)?;
