@@ -42,7 +42,7 @@ const BEGINNINGS: [Case; 5] = [
 #[test]
 fn build_writes_an_image_or_the_line_of_a_refusal(rt: HostRuntime) -> Result<(), Fail> {
     for (line, source, status, front) in BEGINNINGS {
-        let ran = run(rt.alloc(), line, source, 20_000)?;
+        let ran = run(rt.alloc(), line, source, 100_000)?;
         assert_eq!(rt; ran.status, status, "for {line:?}");
         assert!(rt; ran.out.taken().starts_with(front), "for {line:?}");
     }
