@@ -17,13 +17,14 @@ pub fn every_act_is_of_its_task(c: &Core, scheme: Scheme)
     ensures { IsOfProgram c.now (plan_of c.now scheme) }
 {}
 
-/// Nothing stands between an issue and its seal, and nothing but the keeping of words between a copy's transfer and its
-/// seal.
+/// Nothing stands between an issue and its seal, and nothing but the keeping of words between a copy's transfer and a seal of
+/// it in the same list. What stands in other lists, or behind the act that has the list, isn't looked at.
 pub fn acts_stand_in_order(c: &Core, scheme: Scheme)
     ensures { IsInOrder (plan_of c.now scheme) }
 {}
 
-/// Within the limits of programs the code of a plan, its marks and its FRAM places are within those of images.
+/// Within the limits of programs the formulas for words of code, marks and FRAM places are within the limits of images. That
+/// a plan's acts need no more than its program's formulas say is no law yet.
 pub fn sizes_are_within_their_limits(c: &Core, scheme: Scheme)
     requires { IsWellFormed c.now }
     ensures { AreWithin scheme c.now }
