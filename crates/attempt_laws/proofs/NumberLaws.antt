@@ -7,7 +7,7 @@ use Rattle.attempt_laws.specs.Records.{IsInOrder, IsNumbered, IsOnce, acts_in, a
 use Rattle.io_depend.specs.Depend.{flow}
 use Rattle.io_depend.specs.Flow.{Carrying, all_passed, block_passed, carries, either, end_carries, into_arrays, into_pointers, into_sites, no_carrying, no_sites, one_carries, passed, reading_carries, row_assigns, row_moves, row_passed, row_reads, target_carries}
 use Rattle.io_depend.specs.Sets.{has, has_some, joined}
-use Rattle.io_flow.proofs.FlowBodies.{Includes, has-append, or_left, or_right}
+use Rattle.io_flow.specs.Written.{Includes, has-append, or_left, or_right}
 use Rattle.io_flow.proofs.FlowLaws.{has-joined}
 use Rattle.io_flow.proofs.FlowMeets.{append_left, append_right}
 use Rattle.io_flow.proofs.FlowUnion.{Covered, Sound, cov_args, cov_carries, cov_end, or_true, sound_passed}

@@ -16,8 +16,8 @@ use Rattle.io_depend.specs.Depend.{dependents, flow}
 use Rattle.io_depend.specs.Flow.{all_passed, no_carrying}
 use Rattle.io_depend.specs.Sets.{has}
 use Rattle.io_flow.proofs.Dependence.{dependence, differing}
-use Rattle.io_flow.proofs.FlowBodies.{Includes, not_in, or_left, or_right}
-use Rattle.io_flow.proofs.FlowLaws.{or_false}
+use Rattle.io_flow.specs.Written.{Includes, or_left, or_right}
+use Rattle.io_flow.proofs.FlowLaws.{not_in, or_false}
 use Rattle.io_flow.proofs.FlowMeets.{Meet, append_right}
 use Rattle.io_flow.proofs.FlowRuns.{still}
 use Rattle.io_flow.specs.Laws.{PointsNowhere}

@@ -3,7 +3,8 @@ use Rattle.std.proofs.Common.{◌≡◌, ℕ, zero, suc, Bool, true, false, ◌|
 use Rattle.std.specs.Prelude.{⊤}
 use Rattle.attempt_laws.specs.Records.{IsOnce, acts_in, all_acts_in, row_acts_in}
 use Rattle.io_depend.specs.Sets.{has}
-use Rattle.io_flow.proofs.FlowBodies.{Includes, not_in}
+use Rattle.io_flow.specs.Written.{Includes}
+use Rattle.io_flow.proofs.FlowLaws.{not_in}
 use Rattle.io_flow.proofs.FlowMeets.{append_left, append_right}
 use Rattle.io_flow.specs.Replay.{Upto, all_until, args_found, meets, met, over, place_found, row_until, stopped, unmet, until, upto_found, upto_then}
 use Rattle.task_ast.specs.declared.core_form.CoreStmt.{CoreStmt, Row_of-CoreStmt, end_of-CoreStmt, more_of-CoreStmt}

@@ -2,7 +2,7 @@
 use Rattle.std.proofs.Common.{◌≡◌, true, false, [], ◌∷◌, refl, codes}
 use Rattle.std.specs.Fmt.{digits}
 use Rattle.std.specs.Prelude.{Some, None}
-use Rattle.command_line.specs.Form.{walk, run, build, sites, walk_in, run_in, build_in, sites_in, form_of}
+use Rattle.command_line.specs.Form.{walk, run, build, sites, debug, walk_in, run_in, build_in, sites_in, debug_in, form_of}
 use Rattle.command_line.specs.Line.{line_from, value_from}
 use Rattle.word_isa.specs.declared.parts.Scheme.TheVariants.{Undo, Bank}
 
@@ -54,3 +54,15 @@ sites_has_no_option = refl
 sites_has_one_file : form_of (codes "sites" ∷ codes "a" ∷ codes "b" ∷ []) ≡ None
 unfolding form_of line_from value_from sites_in
 sites_has_one_file = refl
+
+three_files_are_debugged : form_of (codes "debug" ∷ codes "i" ∷ codes "--" ∷ codes "w" ∷ codes "--brief" ∷ []) ≡ Some (debug (codes "i") (codes "w") (codes "--brief"))
+unfolding form_of line_from value_from debug_in
+three_files_are_debugged = refl
+
+debug_has_three_files : form_of (codes "debug" ∷ codes "i" ∷ codes "w" ∷ []) ≡ None
+unfolding form_of line_from value_from debug_in
+debug_has_three_files = refl
+
+debug_is_never_brief : form_of (codes "debug" ∷ codes "i" ∷ codes "w" ∷ codes "s" ∷ codes "--brief" ∷ []) ≡ None
+unfolding form_of line_from value_from debug_in
+debug_is_never_brief = refl

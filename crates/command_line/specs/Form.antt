@@ -14,6 +14,7 @@ pub data Form : Type 0 where
   run : (image world : Text) → (brief : Bool) → Form
   build : (program : Text) → (scheme : Scheme) → Form
   sites : (program : Text) → Form
+  debug : (image world script : Text) → Form
 
 infixl 10 ◌>>=◌
 abbrev pub ◌>>=◌ : {A B : Type 0} → Option A → (A → Option B) → Option B
@@ -58,13 +59,22 @@ sites_in args = if nat_lt 1 (length args) then None else do
   program ← slice_get args 0
   Some (sites program)
 
+-- `debug IMAGE WORLD SCRIPT`
+unfoldable pub debug_in : List Text → Option Form
+debug_in args = if nat_lt 3 (length args) then None else do
+  image ← slice_get args 0
+  world ← slice_get args 1
+  script ← slice_get args 2
+  Some (debug image world script)
+
 -- the form of a command with its options; an option with a command that hasn't it is none
 abbrev pub asked_by : Text → List Text → Bool → Option Text → Option Form
 asked_by command args brief scheme =
     if bytes_eq command (codes "walk") then (if brief || is_some scheme then None else walk_in args)
     else if bytes_eq command (codes "run") then (if is_some scheme then None else run_in args brief)
     else if bytes_eq command (codes "build") then (if brief then None else build_in args scheme)
-    else if bytes_eq command (codes "sites") then (if is_some scheme || brief then None else sites_in args)
+    else if bytes_eq command (codes "sites") then (if brief || is_some scheme then None else sites_in args)
+    else if bytes_eq command (codes "debug") then (if brief || is_some scheme then None else debug_in args)
     else None
 
 -- the form of a line, by its first positional
@@ -81,6 +91,7 @@ seen (command.Walk program tasks world) = walk program.now tasks (option_map (λ
 seen (command.Run image world brief) = run image.now world.now brief
 seen (command.Build program scheme) = build program.now scheme
 seen (command.Sites program) = sites program.now
+seen (command.Debug image world script) = debug image.now world.now script.now
 
 -- a walk is of at most 1,000 tasks
 abbrev pub HasFewTasks : Command → Type 0
@@ -88,3 +99,4 @@ HasFewTasks (command.Walk program tasks world) = tasks ≤ 1000
 HasFewTasks (command.Run image world brief) = Unit {0}
 HasFewTasks (command.Build program scheme) = Unit {0}
 HasFewTasks (command.Sites program) = Unit {0}
+HasFewTasks (command.Debug image world script) = Unit {0}

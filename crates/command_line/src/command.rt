@@ -1,5 +1,5 @@
 //! What a command line asks for: one row for each command; docs/COMMANDS.md lists them.
-ghost use Rattle.std.specs.Prelude.{◌≡◌, ◌≤◌, ℕ, Some, map, slice_get, decimal, option_map, string_bytes, IfOk, IfSome, IfNone};
+ghost use Rattle.std.specs.Prelude.{◌≡◌, ◌≤◌, ◌||◌, ℕ, Some, is_some, map, slice_get, decimal, option_map, string_bytes, IfOk, IfSome, IfNone};
 ghost use Rattle.command_line.specs.Line.{Line};
 ghost use Rattle.command_line.specs.Parsed.{IsLine};
 ghost use Rattle.command_line.specs.Form as spec;
@@ -33,6 +33,12 @@ pub enum Command<'a> {
     Sites {
         program: &'a str,
     },
+    /// `debug IMAGE WORLD SCRIPT`.
+    Debug {
+        image: &'a str,
+        world: &'a str,
+        script: &'a str,
+    },
 }
 
 /// What the words of a command line ask for; None exactly where they are none of the forms. A walk is of at most 1,000 tasks.
@@ -65,7 +71,7 @@ fn asked_by<'a>(command: &str, words: &Words<'a>) -> Option<Command<'a>>
 {
     let args = words.args.as_slice();
     if command == "walk" {
-        if words.brief || words.scheme.is_some() {
+        if has_option(words) {
             return None;
         }
         return walk_in(args);
@@ -83,12 +89,25 @@ fn asked_by<'a>(command: &str, words: &Words<'a>) -> Option<Command<'a>>
         return build_in(args, words.scheme);
     }
     if command == "sites" {
-        if words.scheme.is_some() || words.brief {
+        if has_option(words) {
             return None;
         }
         return sites_in(args);
     }
+    if command == "debug" {
+        if has_option(words) {
+            return None;
+        }
+        return debug_in(args);
+    }
     None
+}
+
+// Whether an option stands among the words.
+fn has_option(words: &Words) -> bool
+    ensures { result ≡ (words.now.brief || is_some (option_map (λ s. s.now) words.now.scheme)) }
+{
+    words.brief || words.scheme.is_some()
 }
 
 #[tactic(auto, unfolding(crate::specs::Form::walk_in))]
@@ -171,6 +190,24 @@ fn sites_in<'a>(args: &[&'a str]) -> Option<Command<'a>>
     }
     let program = text_at(args, 0)?;
     Some(Command::Sites { program })
+}
+
+#[tactic(auto, unfolding(crate::specs::Form::debug_in))]
+fn debug_in<'a>(args: &[&'a str]) -> Option<Command<'a>>
+    ensures form { option_map spec.seen result ≡ spec.debug_in (map (λ s. s.now) args.now) }
+    ensures few { IfSome result spec.HasFewTasks }
+{
+    if args.len() > 3 {
+        return None;
+    }
+    let image = text_at(args, 0)?;
+    let world = text_at(args, 1)?;
+    let script = text_at(args, 2)?;
+    Some(Command::Debug {
+        image,
+        world,
+        script,
+    })
 }
 
 #[tactic(auto, using(crate::proofs::FormLaws::text_seen))]

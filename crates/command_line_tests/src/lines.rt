@@ -35,10 +35,17 @@ fn text(alloc: Global, command: &Option<Command<'_>>) -> Result<String, AllocErr
         }
         Some(Command::Build { program, scheme }) => format!(in alloc; "build {program} {scheme:?}"),
         Some(Command::Sites { program }) => format!(in alloc; "sites {program}"),
+        Some(
+            Command::Debug {
+                image,
+                world,
+                script,
+            },
+        ) => format!(in alloc; "debug {image} {world} {script}"),
     }
 }
 
-static LINES: [(&str, &str); 115] = [
+static LINES: [(&str, &str); 134] = [
     ("build|p", "build p Undo"),
     ("build|-", "build - Undo"),
     ("build|p|--scheme|undo", "build p Undo"),
@@ -81,6 +88,25 @@ static LINES: [(&str, &str); 115] = [
     ("sites|p|--brief", "usage"),
     ("--scheme|undo|sites|p", "usage"),
     ("site|p", "usage"),
+    ("debug|i|w|s", "debug i w s"),
+    ("debug|-|-|-", "debug - - -"),
+    ("--|debug|i|w|s", "debug i w s"),
+    ("debug|i|--|w|s", "debug i w s"),
+    ("debug|i|w|s|--", "debug i w s"),
+    ("debug|--|-i|--brief|--scheme", "debug -i --brief --scheme"),
+    ("debug|i|w|", "debug i w "),
+    ("debug|debug|debug|debug", "debug debug debug debug"),
+    ("debug", "usage"),
+    ("debug|i", "usage"),
+    ("debug|i|w", "usage"),
+    ("debug|i|w|s|x", "usage"),
+    ("debug|i|w|s|--brief", "usage"),
+    ("--brief|debug|i|w|s", "usage"),
+    ("debug|i|w|s|--scheme|undo", "usage"),
+    ("debug|i|w|s|--scheme=bank", "usage"),
+    ("debug|i|w|-s", "usage"),
+    ("Debug|i|w|s", "usage"),
+    ("debugger|i|w|s", "usage"),
     ("build|--scheme|bank|p", "build p Bank"),
     ("build|p|--scheme|--|undo", "usage"),
     ("run|i|w", "run i w"),

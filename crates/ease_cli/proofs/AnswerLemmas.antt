@@ -1,6 +1,6 @@
 -- From what the parts of a command answer to what the command says.
 use Rattle.std.proofs.Common.{◌≡◌, ℕ, ◌<◌, ◌≤◌, Bool, List, [], ◌∷◌, ◌++◌, length, take, Option, Some, None, Result, Ok, Err, IfOk, refl, sym, ap, subst, ◌∙◌, arith, inl, inr}
-use Rattle.command_line.specs.Form.{Form, walk, run, build, sites}
+use Rattle.command_line.specs.Form.{Form, walk, run, build, sites, debug}
 use Rattle.devices.specs.declared.event.RunEnd.{RunEnd}
 use Rattle.devices.specs.declared.event.RunEnd.TheVariants as run_end
 use Rattle.devices.specs.declared.world.World.{World}
@@ -9,14 +9,17 @@ use Rattle.ease_base.specs.Sink.{extended, TookFront}
 use Rattle.ease_base.specs.declared.error.NoMemory.{NoMemory}
 use Rattle.ease_cli.proofs.FileLemmas.{both_fetches, read_stays, tells_line}
 use Rattle.ease_cli.specs.Answer.{Answers, Tells, AreRead, IsRead, Reaches, Stops, unbrought, refused, Says, stopped, done, IsUsage, LineSays, Writes, TellsFetchFault}
-use Rattle.ease_cli.specs.Files.{Files, files_of, Kind, source_file, image_file, world_file, Wanted, named, named_if, wanted, limit_of, IsQuiet, IsUnbrought, failed, long}
-use Rattle.ease_cli.specs.Inputs.{Input, tree, image, world, refused_status, IsRefused}
+use Rattle.ease_cli.specs.Files.{Files, files_of, Kind, source_file, image_file, world_file, script_file, Wanted, named, named_if, wanted, limit_of, IsQuiet, IsUnbrought, failed, long}
+use Rattle.ease_cli.specs.Inputs.{Input, tree, image, world, script, refused_status, IsRefused}
 use Rattle.ease_cli.specs.Lines.{usage}
-use Rattle.ease_cli.specs.Output.{IsOutput, walks, runs, builds, accounts, IsWalkOutput, IsRunOutput, IsBuilt, IsAccount, walk_status, run_status}
+use Rattle.ease_cli.specs.Output.{IsOutput, walks, runs, builds, accounts, debugs, IsWalkOutput, IsRunOutput, IsBuilt, IsAccount, IsSession, walk_status, run_status, session_status}
 use Rattle.ease_cli.specs.declared.refusal.Refusal.{Refusal}
 use Rattle.ease_cli.specs.declared.refusal.Refusal.TheVariants as refusal
 use Rattle.ease_cli.specs.declared.status.Status.{Status}
 use Rattle.ease_cli.specs.declared.status.Status.TheVariants as ends
+use Rattle.ease_debug.specs.declared.command.Script.{Script}
+use Rattle.ease_debug.specs.declared.end.DebugEnd.{DebugEnd}
+use Rattle.ease_debug.specs.declared.end.DebugEnd.TheVariants as debug_end
 use Rattle.task_ast.specs.declared.core_form.Core.{Core}
 use Rattle.task_ast.specs.declared.tree.Program.{Program}
 use Rattle.task_check.specs.CheckedForm.{core_of}
@@ -52,6 +55,9 @@ first_reached f c at rest order = record { front = []; back = rest; order = orde
 pub second_reached : (f : Files) (c : Form) (first at : Wanted) (rest : List Wanted) (input : Input) → wanted c ≡ first ∷ (at ∷ rest) → IsRead f first [] input → Reaches f c at (input ∷ [])
 second_reached f c first at rest input order read = record { front = first ∷ []; back = rest; order = order; passed = (read, tt) }
 
+pub third_reached : (f : Files) (c : Form) (first second at : Wanted) (rest : List Wanted) (i j : Input) → wanted c ≡ first ∷ (second ∷ (at ∷ rest)) → IsRead f first [] i → IsRead f second (i ∷ []) j → Reaches f c at (i ∷ (j ∷ []))
+third_reached f c first second at rest i j order read read2 = record { front = first ∷ (second ∷ []); back = rest; order = order; passed = (read, (read2, tt)) }
+
 -- the first file ends the command
 pub first_stops : (c : Form) (f : Files) (at : Wanted) (rest : List Wanted) (e : Refusal) (r : Result Status Refusal) (before after : Option (List ℕ)) → wanted c ≡ at ∷ rest
     → Tells (Stops f at []) e → r ≡ Err e → after ≡ before → Answers (Says c f) r before after
@@ -84,6 +90,35 @@ pub both_read : (first at : Wanted) (input second : Input) (told told1 : Bool) (
 both_read first at input second told told1 contents contents1 a a1 a2 l l1 l2 read quiet t cs read2 quiet2 =
     let moved = both_fetches told told1 contents contents1 a a1 a2 l l1 l2 t cs quiet.faults quiet.long in
     (subst IsQuiet moved quiet2, read_stays told contents a a1 a2 l l1 l2 first [] input read, subst (λ (g : Files). IsRead g at (input ∷ []) second) moved read2)
+
+-- the third file ends the command
+pub third_stops : (c : Form) (first second at : Wanted) (rest : List Wanted) (i j : Input) (told told1 told2 : Bool) (contents contents1 contents2 : Contents) (a a1 a2 a3 l l1 l2 l3 : ℕ) (e : Refusal) (r : Result Status Refusal) (before after : Option (List ℕ))
+    → wanted c ≡ first ∷ (second ∷ (at ∷ rest)) → IsRead (files_of told contents a a1 l l1) first [] i → IsQuiet (files_of told contents a a1 l l1)
+    → told1 ≡ told → ((name : List ℕ) → contents1 name ≡ contents name)
+    → IsRead (files_of told1 contents1 a1 a2 l1 l2) second (i ∷ []) j → IsQuiet (files_of told1 contents1 a1 a2 l1 l2)
+    → told2 ≡ told1 → ((name : List ℕ) → contents2 name ≡ contents1 name)
+    → Tells (Stops (files_of told2 contents2 a2 a3 l2 l3) at (i ∷ (j ∷ []))) e → r ≡ Err e → after ≡ before → Answers (Says c (files_of told contents a a3 l l3)) r before after
+third_stops c first second at rest i j told told1 told2 contents contents1 contents2 a a1 a2 a3 l l1 l2 l3 e r before after order read quiet t cs read2 quiet2 t2 cs2 stops is same =
+    let f = files_of told contents a a3 l l3 in
+    let both = both_read first second i j told told1 contents contents1 a a1 a2 l l1 l2 read quiet t cs read2 quiet2 in
+    let moved = both_fetches told told2 contents contents2 a a2 a3 l l2 l3 (t2 ∙ t) (λ name. cs2 name ∙ cs name) both.0.faults both.0.long in
+    let reaches = third_reached f c first second at rest i j order (read_stays told contents a a2 a3 l l2 l3 first [] i both.1) (read_stays told contents a a2 a3 l l2 l3 second (i ∷ []) j both.2) in
+    subst (λ (x : Result Status Refusal). Answers (Says c f) x before after) (sym is)
+    (answers_refusal (Says c f) e before after same (says_stopped c f at (i ∷ (j ∷ [])) e reaches (subst (λ (g : Files). Tells (Stops g at (i ∷ (j ∷ []))) e) moved stops)))
+
+-- all three files were read in the one cabinet
+pub three_read : (first second at : Wanted) (i j input : Input) (told told1 told2 : Bool) (contents contents1 contents2 : Contents) (a a1 a2 a3 l l1 l2 l3 : ℕ)
+    → IsRead (files_of told contents a a1 l l1) first [] i → IsQuiet (files_of told contents a a1 l l1)
+    → told1 ≡ told → ((name : List ℕ) → contents1 name ≡ contents name)
+    → IsRead (files_of told1 contents1 a1 a2 l1 l2) second (i ∷ []) j → IsQuiet (files_of told1 contents1 a1 a2 l1 l2)
+    → told2 ≡ told1 → ((name : List ℕ) → contents2 name ≡ contents1 name)
+    → IsRead (files_of told2 contents2 a2 a3 l2 l3) at (i ∷ (j ∷ [])) input → IsQuiet (files_of told2 contents2 a2 a3 l2 l3)
+    → IsQuiet (files_of told contents a a3 l l3) × IsRead (files_of told contents a a3 l l3) first [] i
+    × IsRead (files_of told contents a a3 l l3) second (i ∷ []) j × IsRead (files_of told contents a a3 l l3) at (i ∷ (j ∷ [])) input
+three_read first second at i j input told told1 told2 contents contents1 contents2 a a1 a2 a3 l l1 l2 l3 read quiet t cs read2 quiet2 t2 cs2 read3 quiet3 =
+    let both = both_read first second i j told told1 contents contents1 a a1 a2 l l1 l2 read quiet t cs read2 quiet2 in
+    let moved = both_fetches told told2 contents contents2 a a2 a3 l l2 l3 (t2 ∙ t) (λ name. cs2 name ∙ cs name) both.0.faults both.0.long in
+    (subst IsQuiet moved quiet3, read_stays told contents a a2 a3 l l2 l3 first [] i both.1, read_stays told contents a a2 a3 l l2 l3 second (i ∷ []) j both.2, subst (λ (g : Files). IsRead g at (i ∷ (j ∷ [])) input) moved read3)
 
 -- ---- outputs
 
@@ -129,6 +164,14 @@ sites_of f program p core r before after quiet read is answers =
     answers_weaker (IsAccount core p) (Says (sites program) f) r before after
     (λ s t output. done (tree p ∷ []) quiet (read, tt) (accounts program p refl refl (subst (λ (c : Core). IsAccount c p s t) is output))) answers
 
+-- `debug`
+pub debug_on : (f : Files) (file named_world listed : List ℕ) (i : Image) (w : World) (s : Script) (r : Result Status Refusal) (before after : Option (List ℕ))
+    → IsQuiet f → IsRead f (named image_file file) [] (image i) → IsRead f (named world_file named_world) (image i ∷ []) (world w) → IsRead f (named script_file listed) (image i ∷ (world w ∷ [])) (script s)
+    → Answers (IsSession i w s) r before after → Answers (Says (debug file named_world listed) f) r before after
+debug_on f file named_world listed i w s r before after quiet read second third answers =
+    answers_weaker (IsSession i w s) (Says (debug file named_world listed) f) r before after
+    (λ st t output. done (image i ∷ (world w ∷ (script s ∷ []))) quiet (read, (second, (third, tt))) (debugs file named_world listed i w s refl refl output)) answers
+
 -- ---- what is said has a status of its own
 
 -- the statuses that write no line
@@ -144,11 +187,13 @@ IsSilent ends.ReadFault = ⊥
 IsSilent ends.TooLong = ⊥
 IsSilent ends.Trapped = ⊥
 IsSilent ends.PowerEnded = ⊥
+IsSilent ends.ScriptRefused = ⊥
 
 refusal_speaks : (kind : Kind) → IsSilent (refused_status kind) → ⊥
 refusal_speaks source_file silent = silent
 refusal_speaks image_file silent = silent
 refusal_speaks world_file silent = silent
+refusal_speaks script_file silent = silent
 
 walk_speaks : (e : WalkEnd) → IsSilent (walk_status e) → ⊥
 walk_speaks (walk_end.Trapped trap) silent = silent
@@ -161,6 +206,12 @@ run_speaks run_end.Halted silent = silent
 run_speaks (run_end.Trapped code) silent = silent
 run_speaks run_end.Power silent = silent
 
+session_speaks : (e : DebugEnd) → IsSilent (session_status e) → ⊥
+session_speaks debug_end.Script silent = silent
+session_speaks debug_end.Halted silent = silent
+session_speaks (debug_end.Trapped code) silent = silent
+session_speaks debug_end.Power silent = silent
+
 unbrought_speaks : (f : Files) (name : List ℕ) (limit : ℕ) (s : Status) (t : List ℕ) → IsUnbrought f name limit s t → IsSilent s → ⊥
 unbrought_speaks f name limit s t (failed is line steady why) silent = subst IsSilent is silent
 unbrought_speaks f name limit s t (long is line steady rose why) silent = subst IsSilent is silent
@@ -170,6 +221,7 @@ output_speaks c inputs s t (walks program tasks named p rest asked read output) 
 output_speaks c inputs s t (runs file named brief i w asked read output) silent = run_speaks _ (subst IsSilent output.ended silent)
 output_speaks c inputs s t (builds program scheme p asked read output) silent = subst IsSilent output.ended silent
 output_speaks c inputs s t (accounts program p asked read output) silent = subst IsSilent output.ended silent
+output_speaks c inputs s t (debugs file named listed i w played asked read output) silent = session_speaks _ (subst IsSilent output.ended silent)
 
 stops_speak : (f : Files) (at : Wanted) (before : List Input) (s : Status) (t : List ℕ) → Stops f at before s t → IsSilent s → ⊥
 stops_speak f at before s t (unbrought why) silent = unbrought_speaks f at.name (limit_of at.kind) s t why silent
@@ -216,6 +268,7 @@ writes_whole form f ends.ReadFault t before after said is = (t, said, is)
 writes_whole form f ends.TooLong t before after said is = (t, said, is)
 writes_whole form f ends.Trapped t before after said is = (t, said, is)
 writes_whole form f ends.PowerEnded t before after said is = (t, said, is)
+writes_whole form f ends.ScriptRefused t before after said is = (t, said, is)
 writes_whole form f ends.WriteFault t before after said is = absurd (line_speaks form f ends.WriteFault t said tt)
 writes_whole form f ends.NoMemory t before after said is = absurd (line_speaks form f ends.NoMemory t said tt)
 

@@ -1,18 +1,24 @@
 -- Why the bytes of a file are refused, from what their reader answers.
-use Rattle.std.proofs.Common.{◌≡◌, ◌≢◌, ℕ, List, [], Option, Some, None, Result, Ok, Err, IfOk, IfErr, refl, sym, ap, subst, ◌∙◌}
+use Rattle.std.proofs.Common.{◌≡◌, ◌≢◌, ℕ, List, [], ◌∷◌, Option, Some, None, Result, Ok, Err, IfOk, IfErr, refl, sym, ap, subst, ◌∙◌}
 use Rattle.std.specs.Prelude.{OnOk, MatchResult}
 use Rattle.devices.specs.declared.world.World.{World}
 use Rattle.ease_base.specs.declared.error.NoMemory.{NoMemory}
 use Rattle.ease_base.specs.declared.place.Peripheral.{Peripheral}
 use Rattle.ease_cli.specs.Answer.{Tells}
-use Rattle.ease_cli.specs.Files.{source_file, image_file, world_file}
-use Rattle.ease_cli.specs.Inputs.{Input, IsRefused, IsTree, IsImage, IsUnaccepted, names_of, unread, unaccepted}
-use Rattle.ease_cli.specs.Lines.{text_line, check_line, world_line, image_line}
+use Rattle.ease_cli.specs.Files.{source_file, image_file, world_file, script_file}
+use Rattle.ease_cli.specs.Inputs.{Input, IsRefused, IsTree, IsImage, IsScript, IsUnaccepted, names_of, unread, unaccepted}
+use Rattle.ease_cli.specs.Inputs as inputs
+use Rattle.ease_cli.specs.Lines.{text_line, check_line, world_line, image_line, script_line}
 use Rattle.ease_cli.specs.declared.readers.Source.{Source}
 use Rattle.ease_cli.specs.declared.refusal.Refusal.{Refusal}
 use Rattle.ease_cli.specs.declared.refusal.Refusal.TheVariants as refusal
 use Rattle.ease_cli.specs.declared.status.Status.{Status}
 use Rattle.ease_cli.specs.declared.status.Status.TheVariants as ends
+use Rattle.ease_debug.specs.Commands.{lines_of, AreCommands, ReadsAs, TellsFirst, IsFirstRefused}
+use Rattle.ease_debug.specs.declared.command.Command.{Command}
+use Rattle.ease_debug.specs.declared.command.Script.{Script}
+use Rattle.ease_debug.specs.declared.error.ScriptError.{ScriptError}
+use Rattle.ease_debug.specs.declared.error.ScriptError.TheVariants as script
 use Rattle.image_file.specs.Bytes.{image_bytes, raw_of, HasFields}
 use Rattle.image_file.specs.Faults.{image_fault}
 use Rattle.image_file.specs.declared.error.ImageError.{ImageError}
@@ -112,4 +118,30 @@ world_refused bytes names before fault line r named first only spelled memory to
       status_is = refl;
       line = (fault, ap (world_fault bytes) named ∙ first other, line_has (λ x. x ≡ world_line fault) line t spelled is);
       none = λ w is_world. other (only w (sym (ap (world_of bytes) named) ∙ is_world));
+    })
+
+-- ---- scripts
+
+told_first : (i : Image) (lines : List (List ℕ)) (n : ℕ) (text : List ℕ) → TellsFirst i lines (script.Line n) → text ≡ script_line (script.Line n) → (m : ℕ) × IsFirstRefused i lines m × (text ≡ script_line (script.Line m))
+told_first i lines n text first is = (n, first, is)
+
+first_told : (i : Image) (lines : List (List ℕ)) (fault : ScriptError) (text : List ℕ) → fault ≢ script.NoMemory → TellsFirst i lines fault → text ≡ script_line fault
+    → (m : ℕ) × IsFirstRefused i lines m × (text ≡ script_line (script.Line m))
+first_told i lines (script.Line n) text other first is = told_first i lines n text first is
+first_told i lines script.NoMemory text other first is = absurd (other refl)
+
+reads_none : (commands : List Command) (fault : ScriptError) → fault ≢ script.NoMemory → ReadsAs commands (Err fault) → ⊥
+reads_none commands (script.Line n) other reads = reads
+reads_none commands script.NoMemory other reads = other refl
+
+-- bytes that are no script
+pub script_refused : (bytes : List ℕ) (i : Image) (rest : List Input) (fault : ScriptError) (line : Result (List ℕ) NoMemory) (r : Refusal) → TellsFirst i (lines_of bytes) fault
+    → ((commands : List Command) → AreCommands i (lines_of bytes) commands → ReadsAs commands (Err fault))
+    → IfOk line (λ t. t ≡ script_line fault) → OnOk line (fault ≢ script.NoMemory) → Tells (λ s t. (s ≡ ends.ScriptRefused) × (line ≡ Ok t)) r → Tells (IsRefused script_file (inputs.image i ∷ rest) bytes) r
+script_refused bytes i rest fault line r first only spelled memory told = made (IsRefused script_file (inputs.image i ∷ rest) bytes) ends.ScriptRefused line r told (λ t is.
+    let other = line_has (λ _. fault ≢ script.NoMemory) line t memory is in
+    record {
+      status_is = refl;
+      line = first_told i (lines_of bytes) fault t other first (line_has (λ x. x ≡ script_line fault) line t spelled is);
+      none = λ s is_script. reads_none s.lines fault other (only s.lines is_script);
     })

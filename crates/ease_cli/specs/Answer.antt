@@ -90,3 +90,4 @@ TellsFetchFault ends.ImageRefused = ⊥
 TellsFetchFault ends.TooLong = ⊥
 TellsFetchFault ends.Trapped = ⊥
 TellsFetchFault ends.PowerEnded = ⊥
+TellsFetchFault ends.ScriptRefused = ⊥

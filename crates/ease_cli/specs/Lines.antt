@@ -2,6 +2,8 @@
 use Rattle.std.specs.Prelude.{ℕ, List, [], ◌∷◌, ◌++◌, codes, decimal}
 use Rattle.ease_base.specs.Lines.{line}
 use Rattle.ease_base.specs.declared.place.Pos.{Pos}
+use Rattle.ease_debug.specs.declared.error.ScriptError.{ScriptError}
+use Rattle.ease_debug.specs.declared.error.ScriptError.TheVariants as script
 use Rattle.image_file.specs.declared.error.ImageError.{ImageError}
 use Rattle.image_file.specs.declared.error.ImageError.TheVariants as image
 use Rattle.task_text.specs.declared.error.TextError.{TextError}
@@ -96,3 +98,8 @@ image_line (image.BadSymbol n) = numbered (codes "image bad-symbol") n
 image_line (image.BadMark n) = numbered (codes "image bad-mark") n
 image_line image.Trailing = line (codes "image trailing")
 image_line image.NoMemory = []
+
+-- the line of bytes that are no script; want of memory has none
+abbrev pub script_line : ScriptError → List ℕ
+script_line (script.Line n) = numbered (codes "script line") n
+script_line script.NoMemory = []

@@ -1,12 +1,16 @@
 -- The output of each command over its inputs, with its status.
 use Rattle.std.specs.Prelude.{◌≡◌, ℕ, Bool, List, [], ◌∷◌, Option}
-use Rattle.command_line.specs.Form.{Form, walk, run, build, sites}
+use Rattle.command_line.specs.Form.{Form, walk, run, build, sites, debug}
 use Rattle.devices.specs.declared.event.RunEnd.{RunEnd}
 use Rattle.devices.specs.declared.event.RunEnd.TheVariants as run_end
 use Rattle.devices.specs.declared.world.World.{World}
-use Rattle.ease_cli.specs.Inputs.{Input, tree, image, world}
+use Rattle.ease_cli.specs.Inputs.{Input, tree, image, world, script}
 use Rattle.ease_cli.specs.declared.status.Status.{Status}
 use Rattle.ease_cli.specs.declared.status.Status.TheVariants.{Ok, Trapped, PowerEnded}
+use Rattle.ease_debug.specs.Session.{session_text, session_end}
+use Rattle.ease_debug.specs.declared.command.Script.{Script}
+use Rattle.ease_debug.specs.declared.end.DebugEnd.{DebugEnd}
+use Rattle.ease_debug.specs.declared.end.DebugEnd.TheVariants as debug_end
 use Rattle.image_file.specs.Bytes.{image_bytes}
 use Rattle.power_trace.specs.Run.{journal_on, report_on}
 use Rattle.run_plan.specs.PlanOf.{plan_of}
@@ -46,6 +50,18 @@ pub record IsRunOutput (i : Image) (w : World) (brief : Bool) (status : Status) 
   pub ended : status ≡ run_status (journal_on i w).ending
   pub written : text ≡ report_on i w brief
 
+-- the status of a session, by its last line
+abbrev pub session_status : DebugEnd → Status
+session_status debug_end.Script = Ok
+session_status debug_end.Halted = Ok
+session_status (debug_end.Trapped code) = Trapped
+session_status debug_end.Power = PowerEnded
+
+-- `debug`: the text is that of the script's session on the image, with the readings of the world
+pub record IsSession (i : Image) (w : World) (s : Script) (status : Status) (text : List ℕ) : Type 0 where
+  pub ended : status ≡ session_status (session_end i w s.lines)
+  pub written : text ≡ session_text i w s.lines
+
 -- `build`: the bytes are those of an image with the code, the marks and the words of the plan of the checked form
 pub record IsBuilt (core : Core) (scheme : Scheme) (status : Status) (text : List ℕ) : Type 0 where
   pub ended : status ≡ Ok
@@ -64,6 +80,7 @@ retained_of [] = []
 retained_of (world w ∷ rest) = w.retained
 retained_of (tree p ∷ rest) = []
 retained_of (image i ∷ rest) = []
+retained_of (script s ∷ rest) = []
 
 -- What each command writes, over its files: one row for each command.
 pub data IsOutput (c : Form) (inputs : List Input) (status : Status) (text : List ℕ) : Type 0 where
@@ -75,3 +92,5 @@ pub data IsOutput (c : Form) (inputs : List Input) (status : Status) (text : Lis
       → IsBuilt (core_of p) scheme status text → IsOutput c inputs status text
   accounts : (program : List ℕ) (p : Program) → c ≡ sites program → inputs ≡ tree p ∷ []
       → IsAccount (core_of p) p status text → IsOutput c inputs status text
+  debugs : (file named listed : List ℕ) (i : Image) (w : World) (s : Script) → c ≡ debug file named listed → inputs ≡ image i ∷ (world w ∷ (script s ∷ []))
+      → IsSession i w s status text → IsOutput c inputs status text

@@ -1,7 +1,7 @@
 -- The exit status of each way to end.
 use Rattle.std.specs.Prelude.{ℕ}
 use Rattle.ease_cli.specs.declared.status.Status.{Status}
-use Rattle.ease_cli.specs.declared.status.Status.TheVariants.{Ok, Usage, SourceRefused, WorldRefused, ImageRefused, ReadFault, WriteFault, TooLong, NoMemory, Trapped, PowerEnded}
+use Rattle.ease_cli.specs.declared.status.Status.TheVariants.{Ok, Usage, SourceRefused, WorldRefused, ImageRefused, ReadFault, WriteFault, TooLong, NoMemory, Trapped, PowerEnded, ScriptRefused}
 
 abbrev pub number_of : Status → ℕ
 number_of Ok = 0
@@ -15,3 +15,4 @@ number_of TooLong = 7
 number_of NoMemory = 8
 number_of Trapped = 9
 number_of PowerEnded = 10
+number_of ScriptRefused = 11

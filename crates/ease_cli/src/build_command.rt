@@ -18,7 +18,7 @@ use image_file::write_image;
 use run_plan::plan;
 use std::alloc::Global;
 use task_ast::Core;
-use word_code::{LowerError, lower};
+use word_code::lower;
 use word_isa::{Image, Scheme};
 
 /// Writes the bytes of the image of a program.
@@ -63,14 +63,11 @@ fn write_built<K: Sink>(
     Ok(Status::Ok)
 }
 
-// The image of a checked form. That it is unfit isn't ruled out yet by a law, and is answered as want of memory.
+// The image of a checked form.
 fn image_of(alloc: Global, core: &Core, scheme: Scheme) -> Result<Image, NoMemory>
     requires { IsWellFormed core.now }
     ensures { IfOk result (IsImageOf (plan_of core.now scheme) core.now) }
 {
     let plan = plan(alloc, core, scheme)?;
-    match lower(alloc, &plan, core) {
-        Ok(image) => Ok(image),
-        Err(LowerError::NoMemory) | Err(LowerError::Unfit) => Err(NoMemory),
-    }
+    lower(alloc, &plan, core)
 }

@@ -1,21 +1,24 @@
 //! The files of a command: each is fetched and then read.
-ghost use Rattle.std.specs.Prelude.{◌≡◌, ◌⊎◌, ℕ, List, [], ◌<◌, ◌≤◌, IfOk, IfErr, OnOk};
+ghost use Rattle.std.specs.Prelude.{◌≡◌, ◌⊎◌, ℕ, List, [], ◌∷◌, ◌<◌, ◌≤◌, IsTrue, IfOk, IfErr, OnOk, All};
 ghost use Rattle.devices.specs.World.{IsWithinLimits};
 ghost use Rattle.ease_base.specs.Count.{raised};
 ghost use Rattle.ease_cli.specs.Answer.{IsRead, Stops, Tells};
-ghost use Rattle.ease_cli.specs.Files.{files_of, named, source_file, image_file, world_file, IsQuiet, IsBrought, IsUnbrought};
+ghost use Rattle.ease_cli.specs.Files.{files_of, named, source_file, image_file, world_file, script_file, IsQuiet, IsBrought, IsUnbrought};
 ghost use Rattle.ease_cli.specs.Inputs as inputs;
+ghost use Rattle.ease_debug.specs.Commands.{accepts};
+ghost use Rattle.ease_debug.specs.declared.command.Command.{Command};
 ghost use Rattle.task_ast.specs.WellFormed.{IsWellFormed};
 ghost use Rattle.task_ast.specs.declared.tree.Program.{Program};
 ghost use Rattle.task_check.specs.CheckedForm.{core_of};
 ghost use Rattle.world_file.specs.Peripherals.{AreApart};
 
 use crate::lines::{READ_FAULT, TOO_LONG};
-use crate::readers::{Source, image_in, program_in, world_in};
+use crate::readers::{Source, image_in, program_in, script_in, world_in};
 use crate::refusal::{Refusal, refuse};
 use crate::status::Status;
 use devices::World;
 use ease_base::{Cabinet, FetchError, List, Peripheral, Text};
+use ease_debug::Script;
 use std::alloc::Global;
 use task_ast::Core;
 use word_isa::Image;
@@ -28,6 +31,9 @@ const IMAGE_LIMIT: usize = 40_000_000;
 
 /// The most bytes of a world.
 const WORLD_LIMIT: usize = 1_048_576;
+
+/// The most bytes of a script.
+const SCRIPT_LIMIT: usize = 65_536;
 
 /// The program in a file, with its checked form.
 pub fn fetch_source<C: Cabinet>(alloc: Global, files: &mut C, name: &str) -> Result<Source, Refusal>
@@ -104,6 +110,28 @@ pub fn fetch_world<C: Cabinet>(
 {
     let bytes = fetch_bytes(alloc, files, name, WORLD_LIMIT)?;
     world_in(alloc, bytes.as_slice(), names)
+}
+
+/// The script in a file for the image, which is the first of the files before it.
+pub fn fetch_script<C: Cabinet>(
+    alloc: Global,
+    files: &mut C,
+    name: &str,
+    image: &Image,
+) -> Result<Script, Refusal>
+    ensures read { (rest : List inputs.Input) → IfOk result (λ script. IsRead (files_of (C.told files.old) (C.contents files.old) (C.faults files.old) (C.faults files.new) (C.long_contents files.old) (C.long_contents files.new))
+        (named script_file name.now) (inputs.image image.now ∷ rest) (inputs.script script)) }
+    ensures stops { (rest : List inputs.Input) → IfErr result (Tells (Stops (files_of (C.told files.old) (C.contents files.old) (C.faults files.old) (C.faults files.new) (C.long_contents files.old) (C.long_contents files.new))
+        (named script_file name.now) (inputs.image image.now ∷ rest))) }
+    ensures quiet { OnOk result (IsQuiet (files_of (C.told files.old) (C.contents files.old) (C.faults files.old) (C.faults files.new) (C.long_contents files.old) (C.long_contents files.new))) }
+    ensures accepted { IfOk result (λ script. All (λ (c : Command). IsTrue (accepts image.now c)) script.lines) }
+    ensures told { C.told files.new ≡ C.told files.old }
+    ensures contents { (name : List ℕ) → C.contents files.new name ≡ C.contents files.old name }
+    ensures faults { C.faults files.old ≤ C.faults files.new }
+    ensures long_contents { (C.long_contents files.new ≡ C.long_contents files.old) ⊎ (C.long_contents files.new ≡ raised (C.long_contents files.old)) }
+{
+    let bytes = fetch_bytes(alloc, files, name, SCRIPT_LIMIT)?;
+    script_in(alloc, bytes.as_slice(), image)
 }
 
 // The bytes of a file, at most so many.

@@ -2,6 +2,7 @@
 #![tactic(auto)]
 
 mod build_command;
+mod debug_command;
 mod fetched;
 mod lines;
 mod readers;

@@ -4,6 +4,7 @@ ghost use Rattle.ease_base.specs.Lines.{line};
 ghost use Rattle.ease_cli.specs.Lines as spec;
 
 use ease_base::{NoMemory, Pos, Text};
+use ease_debug::ScriptError;
 use image_file::ImageError;
 use std::alloc::Global;
 use task_check::{CheckError, Limit};
@@ -77,6 +78,17 @@ pub fn image_line(alloc: Global, fault: ImageError) -> Result<Text, NoMemory>
         ImageError::BadMark(n) => numbered_line(alloc, "image bad-mark", u64::from(n)),
         ImageError::Trailing => plain_line(alloc, "image trailing"),
         ImageError::NoMemory => Err(NoMemory),
+    }
+}
+
+/// The line of bytes that are no script.
+pub fn script_line(alloc: Global, fault: ScriptError) -> Result<Text, NoMemory>
+    ensures line { IfOk result (λ text. text ≡ spec.script_line fault) }
+    ensures memory { OnOk result (fault ≢ ScriptError.NoMemory) }
+{
+    match fault {
+        ScriptError::Line(n) => numbered_line(alloc, "script line", u64::from(n)),
+        ScriptError::NoMemory => Err(NoMemory),
     }
 }
 

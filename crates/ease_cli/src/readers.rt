@@ -1,9 +1,11 @@
 //! What the bytes of a file are, or the refusal with the line of their first fault.
-ghost use Rattle.std.specs.Prelude.{◌≡◌, ℕ, List, [], ◌≤◌, length, IfOk, IfErr};
+ghost use Rattle.std.specs.Prelude.{◌≡◌, ℕ, List, [], ◌∷◌, ◌≤◌, length, IsTrue, IfOk, IfErr, All};
 ghost use Rattle.devices.specs.World.{IsWithinLimits};
 ghost use Rattle.ease_cli.specs.Answer.{Tells};
-ghost use Rattle.ease_cli.specs.Files.{source_file, image_file, world_file};
+ghost use Rattle.ease_cli.specs.Files.{source_file, image_file, world_file, script_file};
 ghost use Rattle.ease_cli.specs.Inputs as inputs;
+ghost use Rattle.ease_debug.specs.Commands.{accepts};
+ghost use Rattle.ease_debug.specs.declared.command.Command.{Command};
 ghost use Rattle.task_ast.specs.Readable.{IsReadable};
 ghost use Rattle.task_ast.specs.WellFormed.{IsWellFormed};
 ghost use Rattle.task_check.specs.CheckedForm.{core_of};
@@ -11,11 +13,12 @@ ghost use Rattle.task_check.specs.Faults.{Accepted};
 ghost use Rattle.world_file.specs.Peripherals.{AreApart};
 ghost use Rattle.world_file.specs.WorldFile.{world_of};
 
-use crate::lines::{check_line, image_line, text_line, world_line};
+use crate::lines::{check_line, image_line, script_line, text_line, world_line};
 use crate::refusal::{Refusal, refuse};
 use crate::status::Status;
 use devices::World;
 use ease_base::{List, Peripheral};
+use ease_debug::{Script, read_script};
 use image_file::read_image;
 use std::alloc::Global;
 use task_ast::{Core, Program};
@@ -78,5 +81,17 @@ pub fn world_in(alloc: Global, bytes: &[u8], names: &List<Peripheral>) -> Result
     match read_world(alloc, bytes, names) {
         Ok(world) => Ok(world),
         Err(fault) => Err(refuse(Status::WorldRefused, world_line(alloc, fault))),
+    }
+}
+
+/// The script that the bytes are, for the image.
+pub fn script_in(alloc: Global, bytes: &[u8], image: &Image) -> Result<Script, Refusal>
+    ensures read { (rest : List inputs.Input) → IfOk result (inputs.IsScript (inputs.image image.now ∷ rest) bytes.now) }
+    ensures refused { (rest : List inputs.Input) → IfErr result (Tells (inputs.IsRefused script_file (inputs.image image.now ∷ rest) bytes.now)) }
+    ensures accepted { IfOk result (λ script. All (λ (c : Command). IsTrue (accepts image.now c)) script.lines) }
+{
+    match read_script(alloc, bytes, image) {
+        Ok(script) => Ok(script),
+        Err(fault) => Err(refuse(Status::ScriptRefused, script_line(alloc, fault))),
     }
 }

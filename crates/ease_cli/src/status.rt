@@ -25,8 +25,10 @@ pub enum Status {
     NoMemory,
     /// The run trapped; its output was written whole.
     Trapped,
-    /// The power ended before the machine did; the output was written whole.
+    /// The power ended before the machine did, or a session was spent; the output was written whole.
     PowerEnded,
+    /// A line of the script may not stand.
+    ScriptRefused,
 }
 
 impl Status {
@@ -46,6 +48,7 @@ impl Status {
             Status::NoMemory => 8,
             Status::Trapped => 9,
             Status::PowerEnded => 10,
+            Status::ScriptRefused => 11,
         }
     }
 }

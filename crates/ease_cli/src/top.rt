@@ -8,6 +8,7 @@ ghost use Rattle.ease_cli.specs.Settled.{CanBeRead, Settles};
 ghost use Rattle.ease_cli.specs.declared.refusal.Refusal.TheVariants.{WriteFault};
 
 use crate::build_command::build_command;
+use crate::debug_command::debug_command;
 use crate::lines::USAGE;
 use crate::refusal::{Refusal, refuse};
 use crate::run_command::run_command;
@@ -101,5 +102,12 @@ fn carry_out<C: Cabinet, K: Sink>(
             build_command(alloc, program, scheme, files, out)
         }
         Some(Command::Sites { program }) => sites_command(alloc, program, files, out),
+        Some(
+            Command::Debug {
+                image,
+                world,
+                script,
+            },
+        ) => debug_command(alloc, image, world, script, files, out),
     }
 }

@@ -5,7 +5,7 @@ use ease_cli::Status;
 use std::alloc::Global;
 use std::test::Fail;
 
-const SEND: &str =
+pub const SEND: &str =
     "peripheral radio 0; nv word n = 7; word v; task a { v = IO(radio, SINGLE, n); n = n + v; STOP; }";
 
 /// The words, a source, the status, and how what is written begins.

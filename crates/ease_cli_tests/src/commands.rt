@@ -67,11 +67,29 @@ pub fn run_into(
     line: &[&str],
     contents: (&[u8], &[u8]),
     fails: &[u32],
+    out: MemSink,
+) -> Result<Ran, NoMemory> {
+    run_files(
+        alloc,
+        line,
+        &[("p", contents.0), ("w", contents.1)],
+        fails,
+        out,
+    )
+}
+
+// The same of files with their names.
+pub fn run_files(
+    alloc: Global,
+    line: &[&str],
+    contents: &[(&str, &[u8])],
+    fails: &[u32],
     mut out: MemSink,
 ) -> Result<Ran, NoMemory> {
     let mut files = MemCabinet::make(alloc, calls(alloc, fails)?);
-    files.put("p", contents.0)?;
-    files.put("w", contents.1)?;
+    for (name, bytes) in contents {
+        files.put(name, bytes)?;
+    }
     let words = words(alloc, line)?;
     let status = ease(alloc, words.as_slice(), &mut files, &mut out);
     Ok(Ran { status, out })
@@ -196,7 +214,7 @@ fn statements_do_what_they_say(rt: HostRuntime) -> Result<(), Fail> {
 
 #[test]
 fn words_that_are_no_command_are_answered_by_usage(rt: HostRuntime) -> Result<(), Fail> {
-    let cases: [&[&str]; 18] = [
+    let cases: [&[&str]; 20] = [
         &[],
         &["walk"],
         &["walk", "p"],
@@ -215,6 +233,8 @@ fn words_that_are_no_command_are_answered_by_usage(rt: HostRuntime) -> Result<()
         &["walk", "p", "99999999999"],
         &["walk", "-p", "5"],
         &["run", "p", "w", "x"],
+        &["debug", "p", "w"],
+        &["debug", "p", "w", "s", "--brief"],
     ];
     for line in cases {
         let ran = run(rt.alloc(), line, COUNTER, 1_000)?;

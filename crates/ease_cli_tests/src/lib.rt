@@ -12,6 +12,8 @@ mod refusals;
 #[cfg(test)]
 mod runs;
 #[cfg(test)]
+mod sessions;
+#[cfg(test)]
 mod site_refusals;
 #[cfg(test)]
 mod walks;

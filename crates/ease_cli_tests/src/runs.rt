@@ -5,13 +5,13 @@ use ease_cli::Status;
 use std::test::Fail;
 
 /// One HALT and nothing else, in version 1.
-const HALT: &[u8] = &[
+pub const HALT: &[u8] = &[
     69, 65, 83, 69, 1, 0, 0, 0, 0, 0, 0, 0, 0, 0, 1, 0, 0, 0, 0, 0, 0, 1, 0, 0, 0, 0, 0, 0, 0, 0,
     0, 0, 0, 0,
 ];
 
 // The same without its last byte, and with a byte behind it.
-const SHORT: &[u8] = &[
+pub const SHORT: &[u8] = &[
     69, 65, 83, 69, 1, 0, 0, 0, 0, 0, 0, 0, 0, 0, 1, 0, 0, 0, 0, 0, 0, 1, 0, 0, 0, 0, 0, 0, 0, 0,
     0, 0, 0,
 ];
@@ -22,12 +22,12 @@ const TRAILING: &[u8] = &[
 ];
 
 // No code at all.
-const NO_CODE: &[u8] = &[
+pub const NO_CODE: &[u8] = &[
     69, 65, 83, 69, 1, 0, 0, 0, 0, 0, 0, 0, 0, 0, 0, 0, 0, 0, 0, 0, 0, 0, 0, 0, 0, 0, 0, 0, 0, 0,
 ];
 
 // `JMP 0`.
-const JUMPS_TO_ITSELF: &[u8] = &[
+pub const JUMPS_TO_ITSELF: &[u8] = &[
     69, 65, 83, 69, 1, 0, 0, 0, 0, 0, 0, 0, 0, 0, 1, 0, 0, 0, 0, 0, 0, 20, 0, 0, 0, 0, 0, 0, 0, 0,
     0, 0, 0, 0,
 ];
@@ -53,7 +53,7 @@ const COPIES_OVER_ITSELF: &[u8] = &[
 ];
 
 // `LDI r1 7`, `TIME r2`, `IO r3 r1 256`, `ST r3 r0 5`, `HALT`; a peripheral `temp` of number 0.
-const ASKS: &[u8] = &[
+pub const ASKS: &[u8] = &[
     69, 65, 83, 69, 2, 0, 0, 0, 0, 0, 0, 0, 0, 0, 5, 0, 0, 0, 7, 0, 16, 2, 0, 0, 32, 23, 0, 1, 49,
     22, 5, 0, 48, 19, 0, 0, 0, 1, 0, 0, 0, 0, 0, 0, 1, 0, 4, 116, 101, 109, 112, 0, 0, 0, 0, 0,
 ];

@@ -1,9 +1,10 @@
 -- Dependence: two runs of a task that agree on all I/O sites which may flow into a site agree at that site.
+use Rattle.io_flow.specs.Written.{IsWithin}
 use Rattle.std.proofs.Common.{◌≡◌, ℕ, Bool, true, false, not, ◌==◌, None, refl, sym, ap, subst, ◌∙◌, eq-eqb, eqb-true}
 use Rattle.io_depend.specs.Depend.{flow}
 use Rattle.io_depend.specs.Flow.{Carrying, all_passed, no_carrying}
 use Rattle.io_depend.specs.Sets.{has}
-use Rattle.io_flow.proofs.FlowLaws.{IsWithin, Same}
+use Rattle.io_flow.proofs.FlowLaws.{Same}
 use Rattle.io_flow.proofs.FlowMeets.{Meet, all_meets}
 use Rattle.io_flow.proofs.FlowSites.{Differ}
 use Rattle.io_flow.proofs.FlowUnion.{Covered, Sound, sound_all_passed}

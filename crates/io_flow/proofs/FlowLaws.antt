@@ -1,4 +1,5 @@
 -- What doesn't carry a site's word is the same in two runs that differ by that word.
+use Rattle.io_flow.specs.Written.{Includes, IsIn, IsWithin, or_assoc, or_left, or_right, target_is_in}
 use Rattle.std.proofs.Common.{◌≡◌, ℕ, ◌+◌, Bool, true, false, ◌||◌, ◌==◌, cond, ltb, List, [], ◌∷◌, length, get_or, set, Option, Some, None, Result, Ok, Err, refl, sym, ap, ap₂, subst, ◌∙◌, eqb-true, eq-eqb, length-set, get_or-set_other, if◌then◌else◌}
 use Rattle.std.specs.List.{list_any}
 use Rattle.std.specs.Prelude.{⊤}
@@ -27,10 +28,6 @@ pub or_false : (a b : Bool) → (a || b) ≡ false → (a ≡ false) × (b ≡ f
 or_false true b is = absurd (cc is)
 or_false false b is = (refl, is)
 
-pub or_assoc : (a b c : Bool) → (a || (b || c)) ≡ ((a || b) || c)
-or_assoc true b c = refl
-or_assoc false b c = refl
-
 has-with_one : (x : ℕ) (xs : List ℕ) (n : ℕ) → has (with_one x xs) n ≡ ((x == n) || has xs n)
 has-with_one x xs n = by_there (has xs x) refl
   where
@@ -46,6 +43,20 @@ pub has-joined : (xs ys : List ℕ) (n : ℕ) → has (joined xs ys) n ≡ (has 
 has-joined [] ys n = refl
 has-joined (x ∷ xs) ys n = has-with_one x (joined xs ys) n ∙ ap (λ b. (x == n) || b) (has-joined xs ys n) ∙ or_assoc (x == n) (has xs n) (has ys n)
 
+pub joined_left : (xs ys : List ℕ) → Includes xs (joined xs ys)
+joined_left xs ys n there = has-joined xs ys n ∙ or_left (has xs n) (has ys n) there
+
+pub joined_right : (xs ys : List ℕ) → Includes ys (joined xs ys)
+joined_right xs ys n there = has-joined xs ys n ∙ or_right (has xs n) (has ys n) there
+
+-- what is in no larger list is in none
+pub not_in : (xs ys : List ℕ) → Includes xs ys → (n : ℕ) → has ys n ≡ false → has xs n ≡ false
+not_in xs ys all n clean = by_there (has xs n) refl
+  where
+    by_there : (q : Bool) → has xs n ≡ q → q ≡ false
+    by_there true is = absurd (let e : true ≡ false = sym (all n is) ∙ clean in cc e)
+    by_there false is = refl
+
 -- what is in neither list
 pub out_of_joined : (xs ys : List ℕ) (n : ℕ) → has (joined xs ys) n ≡ false → (has xs n ≡ false) × (has ys n ≡ false)
 out_of_joined xs ys n out = or_false (has xs n) (has ys n) (sym (has-joined xs ys n) ∙ out)
@@ -60,11 +71,6 @@ none_passes test (x ∷ xs) n fails there = by_equal (x == n) refl there (λ t. 
     by_equal false is there' rest = rest there'
 
 -- ---- two stores that are the same but for what carries
-
--- where a pointer points, its array is one of those to which it may
-abbrev pub IsWithin : List ℕ → Option Place → Type 0
-IsWithin arrays None = ⊤
-IsWithin arrays (Some at) = has arrays at.array ≡ true
 
 pub record Same (points : Pointing) (c : Carrying) (x y : Store) : Type 0 where
   pub words : (a : ℕ) → has c.arrays a ≡ false → words_of x a ≡ words_of y a
@@ -205,40 +211,6 @@ Both points c (trapped code x) q = ⊤
 pub both_trapped : (points : Pointing) (c : Carrying) (r : Ran) (code : Trap) (y : Store) → Both points c r (trapped code y)
 both_trapped points c (done x) code y = tt
 both_trapped points c (trapped code' x) code y = tt
-
--- a place is in one of these arrays
-abbrev pub IsIn : List ℕ → Result Place Trap → Type 0
-IsIn arrays (Ok at) = has arrays at.array ≡ true
-IsIn arrays (Err code) = ⊤
-
-abbrev pub AllWithin : Pointing → Store → Type 0
-AllWithin points s = (p : ℕ) → IsWithin (points p) (pointed s p)
-
-pub has_itself : (a : ℕ) → has (a ∷ []) a ≡ true
-has_itself a = ap (λ b. b || false) (eq-eqb a a refl)
-
-pub place_is_in : (s : Store) (a i : ℕ) (arrays : List ℕ) → has arrays a ≡ true → IsIn arrays (place_in s a i)
-place_is_in s a i arrays there = by_room (ltb i (length (words_of s a)))
-  where
-    by_room : (b : Bool) → IsIn arrays (if b then Ok (place a i) else Err Index)
-    by_room true = there
-    by_room false = tt
-
-pub target_is_in : (points : Pointing) (t : CoreTarget) (s : Store) → AllWithin points s → IsIn (target_arrays points t) (target_place t s)
-target_is_in points (target.Cell a i) s within = by_value (value_of i s)
-  where
-    by_value : (r : Result ℕ Trap) → IsIn (a ∷ []) (with_found r (place_in s a))
-    by_value (Ok k) = place_is_in s a k (a ∷ []) (has_itself a)
-    by_value (Err code) = tt
-target_is_in points (target.Through p i) s within = by_value (value_of i s)
-  where
-    by_pointed : (o : Option Place) (k : ℕ) → IsWithin (points p) o → IsIn (points p) (place_behind s o k)
-    by_pointed None k inside = tt
-    by_pointed (Some at) k inside = place_is_in s at.array (at.index + k) (points p) inside
-
-    by_value : (r : Result ℕ Trap) → IsIn (points p) (with_found r (place_behind s (pointed s p)))
-    by_value (Ok k) = by_pointed (pointed s p) k (within p)
-    by_value (Err code) = tt
 
 pub both_same : {A : Type 0} (points : Pointing) (c : Carrying) (x y : Store) (r q : Result A Trap) (f g : A → Ran) → r ≡ q → ((a : A) → Both points c (f a) (g a)) → Both points c (if_found r x f) (if_found q y g)
 both_same {A} points c x y r q f g is both = subst (λ q. Both points c (if_found r x f) (if_found q y g)) is (by_case r)

@@ -1,11 +1,11 @@
 -- Dependence: two runs that differ by one site's word agree at each site that doesn't depend on it, where neither traps before.
+use Rattle.io_flow.specs.Written.{Covers, Includes, IsIn, back_of, front_of, has-append, or_left, or_right}
 use Rattle.std.proofs.Common.{◌≡◌, ℕ, zero, suc, Bool, true, false, ◌||◌, ◌==◌, List, [], ◌∷◌, ◌++◌, Option, Result, Ok, Err, refl, sym, ap, subst, subst₂, take, drop, ◌∙◌}
 use Rattle.std.specs.Prelude.{⊤}
 use Rattle.std.specs.List.{list_any}
 use Rattle.io_depend.specs.Flow.{Carrying, all_passed, block_passed, carries, either, end_carries, into_arrays, into_pointers, into_sites, no_sites, one_carries, passed, reading_carries, row_assigns, row_moves, row_passed, row_reads, target_carries}
 use Rattle.io_depend.specs.Sets.{has, has_some, joined}
-use Rattle.io_flow.proofs.FlowBodies.{Covers, Includes, back_of, front_of, has-append, joined_left, joined_right, not_in, or_left, or_right}
-use Rattle.io_flow.proofs.FlowLaws.{Both, IsIn, Same, none_passes, or_false, out_of_joined, value_same}
+use Rattle.io_flow.proofs.FlowLaws.{Both, Same, joined_left, joined_right, none_passes, not_in, or_false, out_of_joined, value_same}
 use Rattle.io_flow.proofs.FlowRuns.{Has, block_has, either_left, either_right, has_all, same_more}
 use Rattle.io_flow.proofs.FlowSites.{Differ, args_same, end_is_in, end_same, replay_flows, room_same}
 use Rattle.io_flow.specs.Replay.{Upto, all_until, args_found, meets, met, over, place_found, put_if, replay, row_replay, row_sites_in, row_until, sites_in, stopped, unmet, until, upto_found, upto_then}

@@ -1,10 +1,10 @@
 -- The pass over statements without sites is right: what it leaves clean is the same in both runs.
+use Rattle.io_flow.specs.Written.{Covers, Includes, IsIn, OnlyEnd, back_of, front_of, has-append, or_right, plain_only, point_is_in, point_within}
 use Rattle.std.proofs.Common.{◌≡◌, ℕ, zero, suc, ◌+◌, Bool, true, false, ◌||◌, List, [], ◌∷◌, ◌++◌, length, get_or, set, Option, Some, None, Result, Ok, Err, refl, sym, ap, subst, ◌∙◌, arith, length-set}
 use Rattle.std.specs.List.{list_any}
 use Rattle.io_depend.specs.Flow.{Carrying, assigns, block_passed, carries, copy_passed, either, end_carries, into_arrays, into_pointers, into_sites, loop_passed, moves, no_sites, one_carries, passed, reading_carries, reads, row_assigns, row_moves, row_passed, row_reads, target_carries, through_carries}
 use Rattle.io_depend.specs.Sets.{has, has_some}
-use Rattle.io_flow.proofs.FlowBodies.{Covers, Includes, OnlyEnd, back_of, front_of, has-append, joined_left, joined_right, not_in, or_right, plain_only, point_is_in, point_within}
-use Rattle.io_flow.proofs.FlowLaws.{Both, IsIn, Same, both_same, both_trapped, or_false, put_same, target_same, value_same}
+use Rattle.io_flow.proofs.FlowLaws.{Both, Same, both_same, both_trapped, joined_left, joined_right, not_in, or_false, put_same, target_same, value_same}
 use Rattle.task_ast.specs.Pointing.{Pointing, addresses, end_arrays, reading_arrays, row_addresses, target_arrays}
 use Rattle.task_ast.specs.declared.core_form.CoreEnd.{CoreEnd}
 use Rattle.task_ast.specs.declared.core_form.CoreExpr.{CoreExpr}

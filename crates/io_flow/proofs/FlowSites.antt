@@ -1,4 +1,5 @@
 -- The pass is right for whole tasks: two runs that differ by one I/O site's word stay the same but for what carries it.
+use Rattle.io_flow.specs.Written.{AllWithin, Covers, Includes, IsIn, IsWithin, Only, OnlyEnd, back_of, front_of, has_itself, only_chosen, only_found, only_none, only_put, only_then, only_twice, or_right, place_is_in, plain_only, target_is_in}
 use Rattle.std.proofs.Common.{◌≡◌, ℕ, zero, suc, ◌+◌, Bool, true, false, ◌||◌, List, [], ◌∷◌, get_or, leb, Option, Some, None, Result, Ok, Err, refl, sym, ap, subst, if◌then◌else◌}
 use Rattle.std.specs.Prelude.{⊤}
 use Rattle.std.specs.List.{list_any}
@@ -6,8 +7,7 @@ use Rattle.walk_run.specs.declared.trap.Trap.TheVariants as cause
 use Rattle.ease_base.specs.Found.{with_found}
 use Rattle.io_depend.specs.Flow.{Carrying, all_passed, assigns, carries, either, end_carries, into_arrays, into_sites, moves, no_sites, one_carries, passed, reading_carries, row_assigns, row_moves, row_passed}
 use Rattle.io_depend.specs.Sets.{has}
-use Rattle.io_flow.proofs.FlowBodies.{Covers, Includes, Only, OnlyEnd, back_of, front_of, only_chosen, only_found, only_none, only_put, only_then, only_twice, or_right, plain_only}
-use Rattle.io_flow.proofs.FlowLaws.{AllWithin, Both, IsIn, IsWithin, Same, assign_both, both_any, both_same, found_same, has_itself, none_passes, or_false, place_is_in, place_same, put_same, target_is_in, target_same, value_same}
+use Rattle.io_flow.proofs.FlowLaws.{Both, Same, assign_both, both_any, both_same, found_same, none_passes, or_false, place_same, put_same, target_same, value_same}
 use Rattle.io_flow.proofs.FlowRuns.{Has, arrays_get, block_has, both_more, both_then, either_left, either_right, gets, grows, has_all, has_more, includes_itself, into_arrays_has, into_sites_has, loop_flows, point_flows, same_apart, same_more}
 use Rattle.io_flow.specs.Replay.{all_replay, args_found, place_found, put_if, replay, row_replay}
 use Rattle.task_ast.specs.Pointing.{Pointing, addresses, all_addresses, end_arrays, reading_arrays, row_addresses, target_arrays}

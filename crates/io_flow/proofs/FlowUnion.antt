@@ -1,10 +1,10 @@
 -- What the pass finds from some sites it finds from one of them.
+use Rattle.io_flow.specs.Written.{has-append, or_left, or_right}
 use Rattle.std.proofs.Common.{◌≡◌, ◌⊎◌, inl, inr, ℕ, Bool, true, false, ◌||◌, ◌==◌, List, [], ◌∷◌, ◌++◌, Option, Some, None, refl, sym, ap, ◌∙◌, eq-eqb}
 use Rattle.std.specs.List.{list_any}
 use Rattle.io_depend.specs.Flow.{Carrying, all_passed, block_passed, carries, either, end_carries, into_arrays, into_pointers, into_sites, no_sites, one_carries, passed, reading_carries, reads, row_assigns, row_moves, row_passed, row_reads, target_carries, through_carries}
 use Rattle.io_depend.specs.Sets.{has, has_some, joined}
-use Rattle.io_flow.proofs.FlowBodies.{has-append, joined_left, or_left, or_right}
-use Rattle.io_flow.proofs.FlowLaws.{has-joined}
+use Rattle.io_flow.proofs.FlowLaws.{has-joined, joined_left}
 use Rattle.io_flow.proofs.FlowMeets.{arrays_keep, pointers_keep, sites_keep}
 use Rattle.io_flow.proofs.FlowRuns.{arrays_get, into_arrays_has, into_pointers_has, into_sites_has}
 use Rattle.task_ast.specs.Pointing.{Pointing, end_arrays, reading_arrays, target_arrays}

@@ -1,5 +1,4 @@
 pub mod Dependence
-pub mod FlowBodies
 pub mod FlowLaws
 pub mod FlowMeets
 pub mod FlowRuns

@@ -22,7 +22,8 @@ use Rattle.run_plan.specs.PlanOf.{Around, save_acts, issue_acts, call_acts, bloc
 use Rattle.run_plan.specs.Kinds.{IsCall, IsBlock, IsCopy, IsOfTask, IsOfSome, AreOfTasks, IsOfProgram}
 use Rattle.run_plan.specs.ActRows.{test_of_task, choose_of_task, leave_of_task, by_class_of_task}
 use Rattle.plan_laws.proofs.Lists.{all_joined, all_mapped, all_in_range}
-use Rattle.plan_laws.proofs.PlacedSites.{Placed, placed_parts, same_long, row_long, task_placed, dependents_placed, region_there}
+use Rattle.plan_laws.specs.PlacedSites.{Placed, placed_parts, same_long, row_long, task_placed, region_there}
+use Rattle.plan_laws.proofs.Dependents.{dependents_placed}
 
 -- a claim that is told by its parts
 told : {P Q : Type 0} → P ≡ Q → Q → P

@@ -1,8 +1,8 @@
 mod BankLaws
+mod Dependents
 mod KindLaws
 mod Lists
 mod OrderLaws
-mod PlacedSites
 mod SavingLaws
 mod SavingOrder
 mod SizeLaws

@@ -1,5 +1,5 @@
 -- In every plan saving stands in its place.
-use Rattle.std.proofs.Common.{◌≡◌, ℕ, zero, suc, ◌+◌, ◌-◌, ◌≤◌, nat_le, Bool, true, false, ◌==◌, List, [], ◌∷◌, ◌++◌, length, take, filter, cond, map, slice_index_or, Some, refl, sym, ap, subst, ◌∙◌, arith}
+use Rattle.std.proofs.Common.{◌≡◌, ℕ, zero, suc, ◌+◌, ◌-◌, ◌≤◌, nat_le, Bool, true, false, ◌==◌, List, [], ◌∷◌, ◌++◌, length, take, filter, cond, map, Some, refl, sym, ap, subst, ◌∙◌, arith}
 use Rattle.std.specs.List.{AllByRecursion, range_with_len}
 use Rattle.std.proofs.lemmas.Bool.{eq-eqb, le-leb}
 use Rattle.std.proofs.lemmas.List.{length-append}
@@ -23,8 +23,8 @@ use Rattle.run_plan.specs.declared.act.Act.TheVariants as act
 use Rattle.run_plan.specs.PlanOf.{Around, issue_acts, call_acts, block_end_acts, block_acts, anew_acts, again_acts, copy_acts, unless_plain, statement_acts, row_acts, body_acts, exit_act, around, task_acts}
 use Rattle.run_plan.specs.Kinds.{stands_at}
 use Rattle.run_plan.specs.Sound.{in_order, all_in_order, stands, more_saved, saved_in_place}
-use Rattle.plan_laws.proofs.PlacedSites.{Placed, placed_parts, same_long, row_long, task_placed}
-use Rattle.plan_laws.proofs.SavingOrder.{ordered, all_ordered_is, order_test, order_choose, order_leave, order_by_class, ordered_joined, Steps, no_step, steps_joined, one_step, with_lists, save_step, copies_at, one_if_copy, numbers_parts}
+use Rattle.plan_laws.specs.PlacedSites.{Placed, placed_parts, same_long, row_long, task_placed, one_if_copy, copies_at, Next, front_next, back_next, first_next}
+use Rattle.plan_laws.proofs.SavingOrder.{ordered, all_ordered_is, order_test, order_choose, order_leave, order_by_class, ordered_joined, Steps, no_step, steps_joined, one_step, with_lists, save_step}
 
 -- more sites have no fewer copies
 one_more : (b : Bool) (x : Site) (xs ys : List Site) → length xs ≤ length ys → length (cond b (x ∷ xs) xs) ≤ length (cond b (x ∷ ys) ys)
@@ -117,23 +117,9 @@ module _ (c : Core) (t : CoreTask) where
       subst (Steps t (copy_acts a k) m) (let same : o ≡ saved (p + 1) = omega (arith, more) in same)
       (one_step t (act.Value k) _ m o (λ rest. refl) (λ behind. valued p) refl region_saving)
 
-  -- a statement's sites come next
-  abbrev Next : (p : ℕ) → List ℕ → Type 0
-  Next p ks = ks ≡ range_with_len (p + 1) (length ks)
-
   -- a place behind so many more sites
   behind_two : (ks ls : List ℕ) (p : ℕ) (acts : List Act) (m : ℕ) → Steps t acts m (saved (p + length ks + length ls)) → Steps t acts m (saved (p + length (ks ++ ls)))
   behind_two ks ls p acts m steps = subst (λ q. Steps t acts m (saved q)) (let same : p + length ks + length ls ≡ p + length (ks ++ ls) = omega (arith, length-append ks ls) in same) steps
-
-  front_next : (ks ls : List ℕ) (p : ℕ) → Next p (ks ++ ls) → Next p ks
-  front_next ks ls p next = (numbers_parts ks ls (p + 1) next).0
-
-  back_next : (ks ls : List ℕ) (p : ℕ) → Next p (ks ++ ls) → Next (p + length ks) ls
-  back_next ks ls p next = (numbers_parts ks ls (p + 1) next).1 ∙ (let e : p + 1 + length ks ≡ p + length ks + 1 = omega arith in ap (λ m. range_with_len m (length ls)) e)
-
-  -- a site that comes next
-  first_next : (k : ℕ) (ks : List ℕ) (p : ℕ) → Next p (k ∷ ks) → k ≡ p + 1
-  first_next k ks p next = ap (λ xs. slice_index_or xs 0 k) next
 
   plain_step : (s : CoreStmt) (p : ℕ) → Steps t (act.Plain s ∷ []) (saved p) (saved p)
   plain_step s p = one_step t (act.Plain s) [] (saved p) (saved p) (λ rest. refl) (λ behind. low (saved p) (omega arith)) refl (no_step t (saved p))

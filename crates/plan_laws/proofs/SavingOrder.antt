@@ -1,17 +1,11 @@
 -- The acts of a plan in the order of the text, and the places in that order where regions are saved.
-use Rattle.std.proofs.Common.{◌≡◌, ℕ, zero, suc, ◌+◌, Bool, true, false, ◌&&◌, ◌==◌, cond, List, [], ◌∷◌, ◌++◌, length, take, filter, Option, Some, None, slice_get, slice_index_or, refl, sym, ap, ◌∙◌, arith}
-use Rattle.std.specs.List.{range_with_len}
+use Rattle.std.proofs.Common.{◌≡◌, ℕ, ◌+◌, Bool, true, ◌&&◌, ◌==◌, List, [], ◌∷◌, ◌++◌, refl, ap, ◌∙◌}
 use Rattle.std.proofs.lemmas.Bool.{eq-eqb}
-use Rattle.task_ast.specs.declared.core_form.Site.{Site}
-use Rattle.task_ast.specs.declared.core_form.Site.TheVariants as site
 use Rattle.task_ast.specs.declared.core_form.CoreExpr.{CoreExpr}
 use Rattle.task_ast.specs.declared.core_form.CoreTask.{CoreTask}
-use Rattle.task_ast.specs.CoreSites.{Standing, a_call, a_block, a_copy, standing_of}
-use Rattle.region_split.specs.Regions.{is_copy, copies}
 use Rattle.run_plan.specs.declared.act.Act.{Act, Row_of-Act, end_of-Act, more_of-Act, items-the_row-Act}
 use Rattle.run_plan.specs.declared.act.Act.TheVariants as act
 use Rattle.run_plan.specs.Rows.{act_row_of, act_row_shows}
-use Rattle.run_plan.specs.Kinds.{standing_or_none, stands_at}
 use Rattle.run_plan.specs.Sound.{in_order, row_in_order, all_in_order, stands, more_saved, saved_in_place}
 
 -- the acts of a list in order, before others
@@ -90,65 +84,3 @@ module _ (t : CoreTask) where
         (both_true (m == m) (m == m) (eq-eqb m m refl) (eq-eqb m m refl))
         (both_true (stands t (act.Lock m) behind (m + 1)) (saved_in_place t behind (m + 1)) (eq-eqb (m + 1) (m + 1) refl) (more.go rest h));
   }
-
--- ---- copies up to a site
-
--- what a site counts
-abbrev pub one_if_copy : Standing → ℕ
-one_if_copy a_call = 0
-one_if_copy a_block = 0
-one_if_copy (a_copy n) = 1
-
-copy_counts : (s : Site) → cond (is_copy s) 1 0 ≡ one_if_copy (standing_of s)
-copy_counts (site.Io ann) = refl
-copy_counts (site.Block ann) = refl
-copy_counts (site.Copy n) = refl
-
-longer : (b : Bool) (s : Site) (xs : List Site) → length (cond b (s ∷ xs) xs) ≡ cond b 1 0 + length xs
-longer true s xs = omega arith
-longer false s xs = omega arith
-
-copies_more : (s : Site) (sites : List Site) → copies (s ∷ sites) ≡ cond (is_copy s) 1 0 + copies sites
-copies_more s sites = longer (is_copy s) s (filter is_copy sites)
-
-is_it : {A : Type 0} (x y : A) → Some x ≡ Some y → x ≡ y
-is_it x y e = ap (λ o. out o x) e
-  where
-    out : {A : Type 0} → Option A → A → A
-    out None d = d
-    out (Some v) d = v
-
-copies_next : (sites : List Site) (p : ℕ) (s : Site) → slice_get sites p ≡ Some s → copies (take (suc p) sites) ≡ copies (take p sites) + cond (is_copy s) 1 0
-copies_next [] p s is = absurd (cc is)
-copies_next (x ∷ xs) zero s is = copies_more x [] ∙ (let e : cond (is_copy x) 1 0 + 0 ≡ 0 + cond (is_copy x) 1 0 = omega arith in e) ∙ ap (λ y. 0 + cond (is_copy y) 1 0) (is_it x s is)
-copies_next (x ∷ xs) (suc p) s is =
-    let more = copies_next xs p s is in
-    let one = copies_more x (take (suc p) xs) in
-    let two = copies_more x (take p xs) in
-    omega (arith, more, one, two)
-
-pub copies_at : (t : CoreTask) (p : ℕ) (x : Standing) → stands_at t (p + 1) ≡ Some x → copies (take (p + 1) t.sites) ≡ copies (take p t.sites) + one_if_copy x
-copies_at t p x is =
-    let e : p + 1 ≡ suc p = omega arith in
-    ap (λ k. copies (take k t.sites)) e ∙ by_site (slice_get t.sites p) refl (sym (ap (stands_at t) e) ∙ is)
-  where
-    by_site : (o : Option Site) → slice_get t.sites p ≡ o → standing_or_none (slice_get t.sites p) ≡ Some x → copies (take (suc p) t.sites) ≡ copies (take p t.sites) + one_if_copy x
-    by_site None none is = absurd (let no : None ≡ Some x = sym (ap standing_or_none none) ∙ is in cc no)
-    by_site (Some s) some is =
-        copies_next t.sites p s some ∙ ap (λ n. copies (take p t.sites) + n) (copy_counts s ∙ ap one_if_copy (is_it (standing_of s) x (sym (ap standing_or_none some) ∙ is)))
-
--- ---- numbers in a row
-
-abbrev tails : List ℕ → List ℕ
-tails [] = []
-tails (x ∷ xs) = xs
-
-pub numbers_parts : (ks ls : List ℕ) (m : ℕ) → ks ++ ls ≡ range_with_len m (length (ks ++ ls)) → (ks ≡ range_with_len m (length ks)) × (ls ≡ range_with_len (m + length ks) (length ls))
-numbers_parts [] ls m is = let e : m ≡ m + 0 = omega arith in (refl, is ∙ ap (λ k. range_with_len k (length ls)) e)
-numbers_parts (k ∷ ks) ls m is =
-    let parts = numbers_parts ks ls (m + 1) (ap tails is) in
-    let e : m + 1 + length ks ≡ m + suc (length ks) = omega arith in
-    ((λ i. head_is i ∷ parts.0 i), parts.1 ∙ ap (λ j. range_with_len j (length ls)) e)
-  where
-    head_is : k ≡ m
-    head_is = ap (λ xs. slice_index_or xs 0 k) is

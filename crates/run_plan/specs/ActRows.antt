@@ -10,7 +10,7 @@ use Rattle.run_plan.specs.declared.act.Act.{Act, Row_of-Act, end_of-Act, more_of
 use Rattle.run_plan.specs.declared.act.Act.TheVariants as act
 use Rattle.run_plan.specs.Rows.{act_row_of, act_row_shows}
 use Rattle.run_plan.specs.Kinds.{IsCall, IsBlock, IsCopy, IsOfTask, AreOfTask}
-use Rattle.run_plan.specs.Order.{IsFollowed, IsOrdered, AreOrdered, AllOrdered}
+use Rattle.run_plan.specs.Order.{IsNoSeal, AreNoSeals, NoSealBehind, IsFollowed, IsOrdered, AreOrdered, AllOrdered}
 
 -- acts of a task
 of_rows : (c : Core) (t : CoreTask) (n : _) (row : Row_of-Act n) → AreOfTask c t row ≡ AllByRecursion (IsOfTask c t) (items-the_row-Act n row)
@@ -35,22 +35,45 @@ pub by_class_of_task : (c : Core) (t : CoreTask) (k : ℕ) (xs ys zs : List Act)
     → IsOfTask c t (act.ByClass k xs ys zs) ≡ (IsCopy t k × AllByRecursion (IsOfTask c t) xs × AllByRecursion (IsOfTask c t) ys × AllByRecursion (IsOfTask c t) zs)
 by_class_of_task c t k xs ys zs = λ i. IsCopy t k × of_list c t xs i × of_list c t ys i × of_list c t zs i
 
+-- acts that seal no such site
+no_seal_rows : (k : ℕ) (n : _) (row : Row_of-Act n) → AreNoSeals k row ≡ AllByRecursion (IsNoSeal k) (items-the_row-Act n row)
+no_seal_rows k n end_of-Act = refl
+no_seal_rows k n (more_of-Act a rest) = ap (λ (T : Type 0). IsNoSeal k a × T) (no_seal_rows k _ rest)
+
+pub no_seal_list : (k : ℕ) (acts : List Act) → AreNoSeals k (act_row_of acts).1 ≡ AllByRecursion (IsNoSeal k) acts
+no_seal_list k acts = no_seal_rows k (act_row_of acts).0 (act_row_of acts).1 ∙ ap (AllByRecursion (IsNoSeal k)) (act_row_shows acts)
+
+pub test_no_seal : (k : ℕ) (e : CoreExpr) (ys ns : List Act) → IsNoSeal k (act.Test e ys ns) ≡ (AllByRecursion (IsNoSeal k) ys × AllByRecursion (IsNoSeal k) ns)
+test_no_seal k e ys ns = λ i. no_seal_list k ys i × no_seal_list k ns i
+
+pub choose_no_seal : (k j : ℕ) (xs ys : List Act) → IsNoSeal k (act.Choose j xs ys) ≡ (AllByRecursion (IsNoSeal k) xs × AllByRecursion (IsNoSeal k) ys)
+choose_no_seal k j xs ys = λ i. no_seal_list k xs i × no_seal_list k ys i
+
+pub leave_no_seal : (k j : ℕ) (acts : List Act) → IsNoSeal k (act.Leave j acts) ≡ AllByRecursion (IsNoSeal k) acts
+leave_no_seal k j acts = no_seal_list k acts
+
+pub by_class_no_seal : (k j : ℕ) (xs ys zs : List Act)
+    → IsNoSeal k (act.ByClass j xs ys zs) ≡ (AllByRecursion (IsNoSeal k) xs × AllByRecursion (IsNoSeal k) ys × AllByRecursion (IsNoSeal k) zs)
+by_class_no_seal k j xs ys zs = λ i. no_seal_list k xs i × no_seal_list k ys i × no_seal_list k zs i
+
 -- acts in order
-ordered_rows : (n : _) (row : Row_of-Act n) → AreOrdered row ≡ AllOrdered (items-the_row-Act n row)
-ordered_rows n end_of-Act = refl
-ordered_rows n (more_of-Act a rest) = ap (λ (T : Type 0). IsOrdered a × IsFollowed a (items-the_row-Act _ rest) × T) (ordered_rows _ rest)
+ordered_rows : (behind : ℕ → Type 0) (n : _) (row : Row_of-Act n) → AreOrdered behind row ≡ AllOrdered behind (items-the_row-Act n row)
+ordered_rows behind n end_of-Act = refl
+ordered_rows behind n (more_of-Act a rest) =
+    ap (λ (T : Type 0). IsOrdered (NoSealBehind (items-the_row-Act _ rest) behind) a × IsFollowed behind a (items-the_row-Act _ rest) × T) (ordered_rows behind _ rest)
 
-pub ordered_list : (acts : List Act) → AreOrdered (act_row_of acts).1 ≡ AllOrdered acts
-ordered_list acts = ordered_rows (act_row_of acts).0 (act_row_of acts).1 ∙ ap AllOrdered (act_row_shows acts)
+pub ordered_list : (behind : ℕ → Type 0) (acts : List Act) → AreOrdered behind (act_row_of acts).1 ≡ AllOrdered behind acts
+ordered_list behind acts = ordered_rows behind (act_row_of acts).0 (act_row_of acts).1 ∙ ap (AllOrdered behind) (act_row_shows acts)
 
-pub test_ordered : (e : CoreExpr) (ys ns : List Act) → IsOrdered (act.Test e ys ns) ≡ (AllOrdered ys × AllOrdered ns)
-test_ordered e ys ns = λ i. ordered_list ys i × ordered_list ns i
+pub test_ordered : (behind : ℕ → Type 0) (e : CoreExpr) (ys ns : List Act) → IsOrdered behind (act.Test e ys ns) ≡ (AllOrdered behind ys × AllOrdered behind ns)
+test_ordered behind e ys ns = λ i. ordered_list behind ys i × ordered_list behind ns i
 
-pub choose_ordered : (k : ℕ) (xs ys : List Act) → IsOrdered (act.Choose k xs ys) ≡ (AllOrdered xs × AllOrdered ys)
-choose_ordered k xs ys = λ i. ordered_list xs i × ordered_list ys i
+pub choose_ordered : (behind : ℕ → Type 0) (k : ℕ) (xs ys : List Act) → IsOrdered behind (act.Choose k xs ys) ≡ (AllOrdered behind xs × AllOrdered behind ys)
+choose_ordered behind k xs ys = λ i. ordered_list behind xs i × ordered_list behind ys i
 
-pub leave_ordered : (k : ℕ) (acts : List Act) → IsOrdered (act.Leave k acts) ≡ AllOrdered acts
-leave_ordered k acts = ordered_list acts
+pub leave_ordered : (behind : ℕ → Type 0) (k : ℕ) (acts : List Act) → IsOrdered behind (act.Leave k acts) ≡ AllOrdered behind acts
+leave_ordered behind k acts = ordered_list behind acts
 
-pub by_class_ordered : (k : ℕ) (xs ys zs : List Act) → IsOrdered (act.ByClass k xs ys zs) ≡ (AllOrdered xs × AllOrdered ys × AllOrdered zs)
-by_class_ordered k xs ys zs = λ i. ordered_list xs i × ordered_list ys i × ordered_list zs i
+pub by_class_ordered : (behind : ℕ → Type 0) (k : ℕ) (xs ys zs : List Act)
+    → IsOrdered behind (act.ByClass k xs ys zs) ≡ (AllOrdered behind xs × AllOrdered behind ys × AllOrdered behind zs)
+by_class_ordered behind k xs ys zs = λ i. ordered_list behind xs i × ordered_list behind ys i × ordered_list behind zs i

@@ -175,12 +175,12 @@ around_fit c scheme f t is few h =
     }
 
 -- the acts of a well-formed task
-task_fit : (c : Core) (scheme : Scheme) (f : Frame) (number : ℕ) (t : CoreTask) → f.task ≡ t → length c.pointers ≤ 256 → length c.tasks ≤ 64 → number ≤ 64 → IsCoreTask c t → AreFit f (task_acts scheme number t)
-task_fit c scheme f number t is few tasks low h =
+task_fit : (c : Core) (scheme : Scheme) (f : Frame) (number : ℕ) (t : CoreTask) → number ≡ f.number → f.task ≡ t → length c.pointers ≤ 256 → length c.tasks ≤ 64 → number ≤ 64 → IsCoreTask c t → AreFit f (task_acts scheme number t)
+task_fit c scheme f number t own is few tasks low h =
     let sites : length t.sites ≤ 128 = h.sites.few in
     let numbered : AllByRecursion IsSiteNumber (all_numbers t.body) = subst (AllByRecursion IsSiteNumber) (sym h.sites.numbers) (range_sites 1 (length t.sites) (omega arith) (omega (arith, sites))) in
     let good = around_fit c scheme f t is few h in (
-      low,
+      (low, own),
       fit_both f (save_acts scheme 0 ++ body_acts (around scheme t) t.body) (exit_act t.exit ∷ [])
           (fit_both f (save_acts scheme 0) (body_acts (around scheme t) t.body) (save_fit f scheme 0 (omega arith)) (body_fit f (around scheme t) (scope_of c t) few 1 false [] t.body good h.body numbered))
           (exit_fit f (scope_of c t) few (length c.tasks) 1 tasks t.exit h.exit, tt),
@@ -195,7 +195,7 @@ boot_fit : (f : Frame) (scheme : Scheme) (count : ℕ) → count ≤ 129 → Are
 boot_fit f Undo count few = restores_fit f 0 count (omega (arith, few))
 boot_fit f Bank count few = tt
 
-most_few : (c : Core) (tasks : List CoreTask) → AllByRecursion (IsCoreTask c) tasks → most_regions tasks ≤ 129
+pub most_few : (c : Core) (tasks : List CoreTask) → AllByRecursion (IsCoreTask c) tasks → most_regions tasks ≤ 129
 most_few c [] h = omega arith
 most_few c (t ∷ rest) h =
     let sites : length t.sites ≤ 128 = h.0.sites.few in
@@ -212,7 +212,7 @@ jobs_fit p c scheme count number (t ∷ rest) boot few acts good pointers tasks 
     let own : slice_index_or p.tasks number [] ≡ task_acts scheme (number + 1) t = ap (λ (n : ℕ). slice_index_or p.tasks n []) (sym here) ∙ acts 0 in
     let in_range : number + 1 ≤ 64 = omega (arith, low) in
     let later : (i : ℕ) → slice_index_or p.tasks (number + 1 + i) [] ≡ slice_index_or (tasks_acts scheme (number + 1 + 1) rest) i [] = λ i. next i in (
-      (subst (AreFit f) (sym boot) (boot_fit f scheme count few), subst (AreFit f) (sym own) (task_fit c scheme f (number + 1) t refl pointers tasks in_range good.0)),
+      (subst (AreFit f) (sym boot) (boot_fit f scheme count few), subst (AreFit f) (sym own) (task_fit c scheme f (number + 1) t refl refl pointers tasks in_range good.0)),
       jobs_fit p c scheme count (number + 1) rest boot few later good.1 pointers tasks (omega (arith, low)),
     )
   where

@@ -88,13 +88,6 @@ pub jobs_end : (p : Plan) (c : Core) (code : List Job → ℕ → List Line) (st
 jobs_end p c code start first now at k past none way =
     sym (append-nil now) ∙ ap (λ (x : List Line). now ++ x) (sym (none at)) ∙ sym (at_drop_all (λ (ts : List CoreTask). now ++ code (jobs_from p c k ts) at) c.tasks k past) ∙ way.lines
 
--- what is counted with what is left is all
-pub record IsSizing (p : Plan) (c : Core) (size : ℕ) (number : ℕ) (left : List CoreTask) : Type 0 where
-  pub sum : min (size + jobs_size p (jobs_from p c number left)) 4294967295 ≡ min (jobs_size p (jobs_of p c)) 4294967295
-  pub small : size ≤ 4294967295
-  pub fit : AllByRecursion (IsFitJob p) (jobs_from p c number left)
-  pub kept : AllByRecursion KeepsFew left
-
 -- the lines of a task as they are counted
 pub record IsCountedJob (p : Plan) (j : Job) (boot acts : ℕ) : Type 0 where
   pub boot_is : boot ≡ boot_size p j

@@ -42,10 +42,10 @@ IsShortSite (Some (stmt.Copy k to from n)) = IsShortEnd to × IsShortEnd from ×
 IsShortSite _ = Unit {0}
 
 abbrev mutual
-  -- an act: a region and a task are few, a site has a number, and what is valued is short
+  -- an act: a region and a task are few, it begins its own task, a site has a number, and what is valued is short
   pub IsFit : Frame → Act → Type 0
   IsFit f (act.Restore r) = r ≤ 128
-  IsFit f (act.Begin t) = t ≤ 64
+  IsFit f (act.Begin t) = (t ≤ 64) × (t ≡ f.number)
   IsFit f (act.Save r) = r ≤ 128
   IsFit f (act.Lock r) = r ≤ 128
   IsFit f (act.Plain s) = IsShortStmt s

@@ -1,5 +1,6 @@
 pub mod ActCode
 pub mod ActLaws
+pub mod ActMarks
 pub mod Acts
 pub mod Beginnings
 pub mod CodeOf
@@ -9,7 +10,9 @@ pub mod Fitting
 pub mod Frames
 pub mod Heads
 pub mod ImageOf
+pub mod Passing
 pub mod Repeats
 pub mod Sizes
 pub mod Tables
 pub mod Values
+pub mod Within

@@ -3,20 +3,19 @@
 
 mod act_lines;
 mod beginnings;
-mod error;
 mod finding;
 mod frame;
 mod heads;
 mod image;
 mod job;
+mod laws;
 mod lines;
 mod parts;
 mod simple;
 mod sizes;
 mod tables;
 mod tasks;
-mod tested;
 mod values;
 
-pub use error::LowerError;
 pub use image::lower;
+pub use laws::every_plan_is_within_its_formulas;

@@ -1,46 +1,40 @@
 //! The words of lines, and their marks.
-ghost use Rattle.std.specs.Prelude.{◌≡◌, ◌<◌, ◌++◌, true, length, IfOk, OnOk};
+ghost use Rattle.std.specs.Prelude.{◌≡◌, ◌<◌, ◌++◌, length, IfOk, OnOk};
 ghost use Rattle.word_code.specs.CodeOf as spec;
+ghost use Rattle.word_code.specs.Passing.{HasRegisters, AllPass, AllFit};
 ghost use Rattle.word_isa.specs.Instructions.{FitsFields};
 
-use crate::error::LowerError;
 use ease_base::{List, NoMemory, Words};
 use line_code::Line;
 use std::alloc::Global;
 use word_isa::{Instr, Mark, encode};
 
-// Whether the operands of an instruction fit their fields.
-fn fits(i: Instr) -> bool
-    ensures { result ≡ true → FitsFields i }
+// An instruction whose registers are there and whose address is short fits its fields: its other operands are as wide as their
+// types.
+fn fits(i: Instr)
+    requires { HasRegisters i }
+    ensures { FitsFields i }
 {
     match i {
-        Instr::Halt | Instr::Trap(_) => true,
-        Instr::Ldi(a, _) | Instr::Lui(a, _) | Instr::Adi(a, _) | Instr::Jz(a, _) => a < 16,
-        Instr::Time(a) => a < 16,
-        Instr::Mov(a, b) | Instr::Add(a, b) | Instr::Sub(a, b) | Instr::Mul(a, b) => {
-            a < 16 && b < 16
-        }
-        Instr::Div(a, b) | Instr::Rem(a, b) | Instr::And(a, b) | Instr::Or(a, b) => {
-            a < 16 && b < 16
-        }
-        Instr::Xor(a, b) | Instr::Shl(a, b) | Instr::Shr(a, b) => a < 16 && b < 16,
-        Instr::Eq(a, b) | Instr::Ltu(a, b) => a < 16 && b < 16,
-        Instr::Ld(a, b, _) | Instr::St(a, b, _) => a < 16 && b < 16,
-        Instr::Jmp(t) => t < 16_777_216,
-        Instr::Io(a, b, m) => a < 16 && b < 16 && m / 256 <= 4 && b as u16 + m / 256 <= 16,
-        Instr::Dma(a, b, m) => a < 16 && b < 16 && m < 16,
+        Instr::Halt | Instr::Trap(_) | Instr::Jmp(_) | Instr::Time(_) => (),
+        Instr::Ldi(..) | Instr::Lui(..) | Instr::Adi(..) | Instr::Jz(..) => (),
+        Instr::Mov(..) | Instr::Add(..) | Instr::Sub(..) | Instr::Mul(..) => (),
+        Instr::Div(..) | Instr::Rem(..) | Instr::And(..) | Instr::Or(..) => (),
+        Instr::Xor(..) | Instr::Shl(..) | Instr::Shr(..) => (),
+        Instr::Eq(..) | Instr::Ltu(..) | Instr::Ld(..) | Instr::St(..) => (),
+        Instr::Io(..) | Instr::Dma(..) => (),
     }
 }
 
 /// The words of lines.
-pub fn words_of(alloc: Global, lines: &[Line]) -> Result<Words, LowerError>
-    ensures { IfOk result (λ words. words ≡ spec.words_of lines.now) }
+pub fn words_of(alloc: Global, lines: &[Line]) -> Result<Words, NoMemory>
+    requires { AllPass lines.now }
+    ensures words { IfOk result (λ words. words ≡ spec.words_of lines.now) }
+    ensures fit { IfOk result (λ words. AllFit lines.now) }
 {
     let mut words = List::new(alloc);
     'lines: for line in lines {
-        if !fits(line.instr) {
-            return Err(LowerError::Unfit);
-        }
+        fits(line.instr);
         words.push(encode(line.instr))?;
     }
     Ok(words)

@@ -1,5 +1,5 @@
 //! The code of all tasks, behind the head and the stubs.
-ghost use Rattle.std.specs.Prelude.{◌≡◌, ◌+◌, ◌-◌, ◌^◌, ◌≤◌, ◌<◌, ◌++◌, min, length, IfOk, OnOk};
+ghost use Rattle.std.specs.Prelude.{◌≡◌, ◌+◌, ◌≤◌, ◌<◌, ◌++◌, length, IfOk, OnOk};
 ghost use Rattle.word_code.specs.CodeOf as spec;
 ghost use Rattle.word_code.specs.FitPlan.{IsFitJob, KeepsFew};
 
@@ -13,20 +13,6 @@ use line_code::Code;
 use std::alloc::Global;
 use task_ast::CoreTask;
 use word_isa::Instr;
-
-/// The lines of all tasks.
-pub fn tasks_size(b: &Built) -> u32
-    ensures { result ≡ min (spec.jobs_size b.now.plan (spec.jobs_of b.now.plan b.now.core)) (2 ^ 32 - 1) }
-{
-    let mut size = 0u32;
-    'tasks: for (number, task) in b.core.tasks.as_slice().iter().enumerate() {
-        let f = b.frame(number, task);
-        size = size
-            .saturating_add(b.boot_size(&f))
-            .saturating_add(acts_size(&f, b.acts(number)));
-    }
-    size
-}
 
 // A stub for each task, where a boot enters it.
 fn boot_stubs(code: &mut Code, b: &Built, first: u32) -> Result<(), NoMemory>

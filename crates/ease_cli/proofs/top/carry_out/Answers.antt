@@ -24,3 +24,7 @@ returns-in-Some-Build-clause-says g c =
 pub returns-in-Some-Sites-clause-says : goal.returns-in-Some-Sites-clause-says
 returns-in-Some-Sites-clause-says g c =
     form_answers _ _ _ _ _ _ (ap (λ (x : Command). Some (seen x)) (sym c.in-Some-Sites.field-0-is) ∙ ap (option_map seen) (sym c.in-Some-Sites.is) ∙ c.in_ok-command_of.ensures.form) c.sites_command.ensures.says
+
+pub returns-in-Some-Debug-clause-says : goal.returns-in-Some-Debug-clause-says
+returns-in-Some-Debug-clause-says g c =
+    form_answers _ _ _ _ _ _ (ap (λ (x : Command). Some (seen x)) (sym c.in-Some-Debug.field-0-is) ∙ ap (option_map seen) (sym c.in-Some-Debug.is) ∙ c.in_ok-command_of.ensures.form) c.debug_command.ensures.says

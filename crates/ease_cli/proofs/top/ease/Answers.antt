@@ -18,3 +18,6 @@ pub returns-in-Ok-send_all-clause-settled : goal.returns-in-Ok-send_all-clause-s
 returns-in-Ok-send_all-clause-settled g c command some can steady =
     settles_by_line _ _ c.in-Err-Refused.field-0 c.in-Err-Refused.status c.in-Err-Refused.line c.as_slice.result.now _ _ _ command c.in-Err-Refused.field-0-is c.in-Err-Refused.ensures.says c.as_slice.ensures
     c.in-Ok-send_all.ensures.whole some can
+
+pub returns-in-Ok-clause-write_fault : goal.returns-in-Ok-clause-write_fault
+returns-in-Ok-clause-write_fault g c fault = absurd (whole_speaks _ _ _ _ _ c.in-Ok.ensures.says fault)

@@ -1,0 +1,17 @@
+pub mod Arguments
+pub mod BeginActs
+pub mod BlockActs
+pub mod Calls
+pub mod ClassActs
+pub mod CommitActs
+pub mod CopyEnds
+pub mod CopyValued
+pub mod Counted
+pub mod HeadActs
+pub mod Lengths
+pub mod PlainActs
+pub mod SaveActs
+pub mod SimpleActs
+pub mod TableActs
+pub mod Valued
+pub mod WordActs

@@ -1,0 +1,4 @@
+pub mod Commits
+pub mod Puts
+pub mod Seals
+pub mod Writes

@@ -1,0 +1,15 @@
+pub mod After
+pub mod Assigning
+pub mod Branches
+pub mod ExpressionWorks
+pub mod Found
+pub mod Jumps
+pub mod Loops
+pub mod OwnLines
+pub mod Parts
+pub mod Places
+pub mod Placing
+pub mod PlainWorks
+pub mod Pointers
+pub mod RunGoals
+pub mod Templates

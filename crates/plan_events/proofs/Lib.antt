@@ -1,0 +1,11 @@
+mod Attempts
+mod Bodies
+mod Boots
+mod Cuts
+mod Going
+mod Lasting
+mod Runs
+mod States
+mod Stores
+mod Telling
+mod Traps
