@@ -69,27 +69,21 @@ pub fn run_into(
     fails: &[u32],
     out: MemSink,
 ) -> Result<Ran, NoMemory> {
-    run_files(
-        alloc,
-        line,
-        &[("p", contents.0), ("w", contents.1)],
-        fails,
-        out,
-    )
+    run_three(alloc, line, (contents.0, contents.1, &[]), fails, out)
 }
 
-// The same of files with their names.
-pub fn run_files(
+// The same of the files `p`, `w` and `s`.
+pub fn run_three(
     alloc: Global,
     line: &[&str],
-    contents: &[(&str, &[u8])],
+    contents: (&[u8], &[u8], &[u8]),
     fails: &[u32],
     mut out: MemSink,
 ) -> Result<Ran, NoMemory> {
     let mut files = MemCabinet::make(alloc, calls(alloc, fails)?);
-    for (name, bytes) in contents {
-        files.put(name, bytes)?;
-    }
+    files.put("p", contents.0)?;
+    files.put("w", contents.1)?;
+    files.put("s", contents.2)?;
     let words = words(alloc, line)?;
     let status = ease(alloc, words.as_slice(), &mut files, &mut out);
     Ok(Ran { status, out })

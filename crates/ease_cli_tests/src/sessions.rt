@@ -1,6 +1,6 @@
 //! Images, worlds and scripts through `debug`: sessions, and refusals in the order of the files.
 use crate::builds::SEND;
-use crate::commands::{Ran, calls, run, run_files};
+use crate::commands::{Ran, calls, run, run_three};
 use crate::runs::{ASKS, HALT, JUMPS_TO_ITSELF, NO_CODE, SHORT};
 use ease_base::{MemSink, NoMemory};
 use ease_cli::Status;
@@ -16,8 +16,8 @@ fn debug(
     fails: &[u32],
 ) -> Result<Ran, NoMemory> {
     let out = MemSink::make(alloc, 1_000, calls(alloc, &[])?)?;
-    let contents = [("p", image), ("w", world.as_bytes()), ("s", script)];
-    run_files(alloc, &["debug", "p", "w", "s"], &contents, fails, out)
+    let contents = (image, world.as_bytes(), script);
+    run_three(alloc, &["debug", "p", "w", "s"], contents, fails, out)
 }
 
 /// An image, a world, a script, the status, and what is written.
@@ -160,12 +160,8 @@ fn a_session_ends_before_the_line_whose_write_fails(rt: HostRuntime) -> Result<(
     for (write, front) in cases {
         let alloc = rt.alloc();
         let out = MemSink::make(alloc, 1_000, calls(alloc, &[write])?)?;
-        let contents = [
-            ("p", ASKS),
-            ("w", b"".as_slice()),
-            ("s", b"step 2\nfail 0 0\n".as_slice()),
-        ];
-        let ran = run_files(alloc, &["debug", "p", "w", "s"], &contents, &[], out)?;
+        let contents = (ASKS, [].as_slice(), b"step 2\nfail 0 0\n".as_slice());
+        let ran = run_three(alloc, &["debug", "p", "w", "s"], contents, &[], out)?;
         assert_eq!(rt; ran.status, Status::WriteFault, "for {write}");
         assert_eq!(rt; ran.out.taken(), front.as_bytes(), "for {write}");
     }
