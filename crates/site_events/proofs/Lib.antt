@@ -1,0 +1,6 @@
+pub mod Acts
+pub mod Calls
+pub mod Places
+pub mod Records
+pub mod Stores
+pub mod Telling

@@ -1,0 +1,4 @@
+pub mod Follows
+pub mod Records
+pub mod Standing
+pub mod Telling
