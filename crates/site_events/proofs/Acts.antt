@@ -1,5 +1,5 @@
 -- The acts of statements without sites, of conditions and of exits tell what the rules say, if what comes behind them does.
-use Rattle.std.proofs.Common.{◌≡◌, ◌∙◌, ℕ, zero, suc, ◌+◌, ◌≤◌, true, List, [], ◌∷◌, ◌++◌, length, map, Result, Ok, Err, refl, sym, ap, subst, arith}
+use Rattle.std.proofs.Common.{◌≡◌, ◌∙◌, ℕ, zero, suc, ◌+◌, ◌*◌, ◌≤◌, Bool, true, false, cond, List, [], ◌∷◌, ◌++◌, length, map, Result, Ok, Err, refl, sym, ap, subst, arith}
 use Rattle.std.specs.Prelude.{Option, Some, None}
 use Rattle.std.specs.List.{AllByRecursion}
 use Rattle.task_ast.specs.declared.core_form.CoreExpr.{CoreExpr}
@@ -15,7 +15,8 @@ use Rattle.io_depend.specs.Sets.{has}
 use Rattle.region_split.specs.Regions.{touches}
 use Rattle.walk_run.specs.declared.trap.Trap.{Trap}
 use Rattle.walk_run.specs.Trap.{code_of}
-use Rattle.walk_run.specs.Store.{Store}
+use Rattle.walk_run.specs.declared.place.Place.{Place}
+use Rattle.walk_run.specs.Store.{Store, word_at}
 use Rattle.walk_run.specs.Value.{value_of}
 use Rattle.walk_run.specs.Plain.{Ran, done, trapped, store_left, chosen, plain_done}
 use Rattle.walk_run.specs.PlainWrites.{Write, after_writes, plain_writes}
@@ -30,10 +31,11 @@ use Rattle.task_attempts.specs.Boots.{task_of}
 use Rattle.task_attempts.specs.Attempts.{committed_by, commit, exit_log}
 use Rattle.run_plan.specs.declared.act.Act.{Act}
 use Rattle.run_plan.specs.declared.act.Act.TheVariants as act
-use Rattle.run_plan.specs.Cells.{State, puts_state, after_write}
-use Rattle.run_plan.specs.Small.{Doing, first_way, second_way, silent, showing, does, unless_fails, same, with_volatile}
+use Rattle.run_plan.specs.Cells.{State, puts_aside, puts_lock, puts_state, after_write}
+use Rattle.run_plan.specs.Small.{Doing, first_way, second_way, silent, showing, does, unless_fails, same, with_volatile, lock_holds}
 use Rattle.run_plan.specs.Deeds.{plain_ends, next_bank}
-use Rattle.run_plan.specs.Words.{home_writes}
+use Rattle.run_plan.specs.Words.{first_places, home_writes, save_writes}
+use Rattle.run_plan.specs.Weights.{region_words, weight}
 use Rattle.run_plan.specs.Safe.{all_written}
 use Rattle.run_plan.specs.PlanOf.{exit_act}
 use Rattle.run_plan.specs.Runs.{Small, At, Onward, Planned, with_state, doing, act_end, deed, act_steps, straight, by_way, nothing, act_run, acts_run}
@@ -43,9 +45,18 @@ use Rattle.plan_restore.proofs.Writing.{TouchMay, WriteMay, plain_writes_may}
 use Rattle.site_events.specs.Records.{view}
 use Rattle.site_events.specs.Standing.{sites_in, sites_of, StandsAt}
 use Rattle.site_events.specs.Follows.{Known, Related, Follows, PointsWithin, Goes}
-use Rattle.site_events.proofs.Places.{homes_unseen, all_view, all_frame, all_stand, commit_stands}
+use Rattle.site_events.proofs.Places.{homes_unseen, saves_unseen, all_view, all_frame, all_stand, lock_stands, commit_stands}
 use Rattle.site_events.proofs.Stores.{writes_leave}
-use Rattle.site_events.proofs.Telling.{silents_go, writes_go, shown_goes, end_goes, trap_goes}
+use Rattle.site_events.proofs.Telling.{silent_goes, silents_go, writes_go, shown_goes, end_goes, trap_goes}
+
+-- saving writes no home
+saves_leave : (c : Core) (v : Place → ℕ) (places : List Place) (s : State) → (all_written c (map (λ at. puts_aside at (v at)) places) s).store ≡ s.store
+saves_leave c v [] s = refl
+saves_leave c v (at ∷ places) s = saves_leave c v places (after_write c.arrays (puts_aside at (v at)) s)
+
+at_most : (held : Bool) (words : ℕ) → cond held 0 words ≤ words
+at_most true words = omega arith
+at_most false words = omega arith
 
 pub no_spare : (spare a b : ℕ) → a + spare ≤ b → a ≤ b
 no_spare spare a b le = omega (arith, le)
@@ -134,6 +145,45 @@ module _ (p : Planned) (Sees : Store → Small → Type 0) (fuel number : ℕ) (
       (record { store = related.store; mode = related.mode; running = related.running; stands = related.stands; weights = (let few = related.weights in omega (arith, few)); within = related.within }) known in
       subst (λ store. Goes p Sees fuel at.state.store here.standing (act_steps d (act.Test e ys ns) (by_way (acts_run d again ys go) (acts_run d again ns go) go go) at)
       (unless_trap (value_of e store) (λ word. chosen word front other) (spent (condition_steps e) here))) related.store told)
+
+  -- ---- saving
+
+  -- what a region may write first is copied aside, unless its lock holds
+  pub save_follows : (K : Known p Sees fuel) (spare r : ℕ) (go : Onward) (rest : Rest) → Go K spare go rest → Go K (spare + (6 + 12 * region_words d r)) (act_steps d (act.Save r) (straight go)) rest
+  save_follows K spare r go rest follows at here related known =
+      let places = cond (lock_holds at.state r) [] (first_places d r) in
+      let writes = save_writes at.state places in
+      let unseen = saves_unseen at.state places in
+      let s = all_written c writes at.state in
+      let begun : At = record at { weights = at.weights + weight d (act.Save r) at.state } in
+      let stands = subst (λ v. StandsAt c v here.standing) (sym (all_view c writes unseen at.state)) related.stands in
+      let frame = all_frame c writes unseen at.state in
+      let held = at_most (lock_holds at.state r) (region_words d r) in
+      writes_go p Sees fuel (act.Save r) writes (act_end c (act.Save r) same go) begun here.standing (rest here) (all_stand p Sees fuel here.standing writes unseen at.state related.stands)
+      (same_goes K spare (act.Save r) go rest follows (with_state s begun) here (record {
+        store = saves_leave c (word_at at.state.store) places at.state ∙ related.store;
+        mode = ap (λ f. f.mode) frame ∙ related.mode;
+        running = related.running;
+        stands = stands;
+        weights = (let few = related.weights in omega (arith, few, held));
+        within = related.within;
+      }) (subst (λ f. K f here.standing.account.records) (sym frame) known))
+
+  -- the lock of a region that was reached, or of the one behind
+  pub lock_follows : (K : Known p Sees fuel) (spare r : ℕ) → ((here : Here) → r ≤ here.standing.account.furthest + 1) → (go : Onward) (rest : Rest) → Go K spare go rest → Go K (spare + 2) (act_steps d (act.Lock r) (straight go)) rest
+  lock_follows K spare r reached go rest follows at here related known =
+      let begun : At = record at { weights = at.weights + 2 } in
+      let s = after_write c.arrays (puts_lock r at.state.epoch) at.state in
+      let stands = lock_stands c at.state here related.stands r (reached here) in
+      silent_goes p Sees fuel (act.Lock r) (puts_lock r at.state.epoch) (act_end c (act.Lock r) same go) begun here.standing (rest here) stands
+      (same_goes K spare (act.Lock r) go rest follows (with_state s begun) here (record {
+        store = related.store;
+        mode = related.mode;
+        running = related.running;
+        stands = stands;
+        weights = (let few = related.weights in omega (arith, few));
+        within = related.within;
+      }) known)
 
   -- ---- exits
 

@@ -108,9 +108,9 @@ valued_are (Some t) args rest here = by_place (target_place t here.store)
 
 -- ---- what is known between the acts of a call
 
--- what is known of the blocks around
+-- what is known of the mode and of the blocks around: the mode outside each, and its beginning
 abbrev pub Outer : Type 1
-Outer = (ℕ → Option Mode) → (ℕ → Option ℕ) → Type 0
+Outer = Option Mode → (ℕ → Option Mode) → (ℕ → Option ℕ) → Type 0
 
 -- the place that a call's word goes to may be written
 abbrev pub MayPut : Core → Option Place → Type 0
@@ -173,32 +173,32 @@ module _ (p : Planned) (Sees : Store → Small → Type 0) (fuel number : ℕ) (
 
   -- what is known besides, between two statements
   abbrev pub Beside : Outer → Claim
-  Beside P f rs = P f.outer f.begun
+  Beside P f rs = P f.mode f.outer f.begun
 
   module _ (P : Outer) (k : ℕ) where
     abbrev IsValued : Option Place → List ℕ → Claim
-    IsValued at words f rs = P f.outer f.begun × (f.target ≡ Some at) × (f.args ≡ Some words)
+    IsValued at words f rs = P f.mode f.outer f.begun × (f.target ≡ Some at) × (f.args ≡ Some words)
 
     abbrev IsLooked : Option Place → List ℕ → (time : ℕ) → Claim
-    IsLooked at words time f rs = P f.outer f.begun × (f.target ≡ Some at) × (f.args ≡ Some words) × (f.time ≡ Some time)
+    IsLooked at words time f rs = P f.mode f.outer f.begun × (f.target ≡ Some at) × (f.args ≡ Some words) × (f.time ≡ Some time)
 
     abbrev IsDropped : Option Place → List ℕ → (time : ℕ) → Claim
     IsDropped at words time f rs = IsLooked at words time f rs × (rs k ≡ None)
 
     abbrev IsIssued : Option Place → (time word : ℕ) → Claim
-    IsIssued at time word f rs = P f.outer f.begun × (f.target ≡ Some at) × (f.time ≡ Some time) × (f.word ≡ Some word) × (rs k ≡ None)
+    IsIssued at time word f rs = P f.mode f.outer f.begun × (f.target ≡ Some at) × (f.time ≡ Some time) × (f.word ≡ Some word) × (rs k ≡ None)
 
     abbrev IsKept : Option Place → (word : ℕ) → Claim
-    IsKept at word f rs = P f.outer f.begun × (f.target ≡ Some at) × ((time : ℕ) × ((args : List ℕ) × (rs k ≡ Some (of_reading word time args))))
+    IsKept at word f rs = P f.mode f.outer f.begun × (f.target ≡ Some at) × ((time : ℕ) × ((args : List ℕ) × (rs k ≡ Some (of_reading word time args))))
 
     abbrev IsTaken : Option Place → (word : ℕ) → Claim
-    IsTaken at word f rs = P f.outer f.begun × (f.target ≡ Some at) × (f.word ≡ Some word)
+    IsTaken at word f rs = P f.mode f.outer f.begun × (f.target ≡ Some at) × (f.word ≡ Some word)
 
     -- ---- its target and its arguments are valued
 
     module _ (target : Option CoreTarget) (q : ℕ) (args : List CoreExpr) (spare : ℕ) (go : Onward) (rest : Option Place → List ℕ → Rest) where
       -- the act's end, or a trap of its arguments
-      words_go : (at_place : Option Place) → ((words : List ℕ) → Going (IsValued at_place words) spare go (rest at_place words)) → (r : Result (List ℕ) Trap) (at : At) (here : Here) → Near spare at here → P at.state.frame.outer at.state.frame.begun
+      words_go : (at_place : Option Place) → ((words : List ℕ) → Going (IsValued at_place words) spare go (rest at_place words)) → (r : Result (List ℕ) Trap) (at : At) (here : Here) → Near spare at here → P at.state.frame.mode at.state.frame.outer at.state.frame.begun
           → Goes p Sees fuel at.state.store here.standing (deed c (act.Value k) (unless_fails r (λ words. sets_frame (record at.state.frame { target = Some at_place; args = Some words }))) (straight go) at) (unless_trap r (rest at_place) here)
       words_go at_place follows (Err why) at here related outer = trap_goes p Sees fuel at.state.store (act.Value k) why at here related.stands (no_spare spare _ _ related.weights)
       words_go at_place follows (Ok words) at here related outer =
@@ -216,7 +216,7 @@ module _ (p : Planned) (Sees : Store → Small → Type 0) (fuel number : ℕ) (
       abbrev Ends : (Option Place → List ℕ → Frame) → Store → Result (Option Place) Trap → Done
       Ends f store r = unless_fails r (λ at_place. unless_fails (all_values args store) (λ words. sets_frame (f at_place words)))
 
-      place_go : ((at_place : Option Place) → MayPut c at_place → (words : List ℕ) → Going (IsValued at_place words) spare go (rest at_place words)) → (at : At) (here : Here) → Near (spare + 20) at here → P at.state.frame.outer at.state.frame.begun
+      place_go : ((at_place : Option Place) → MayPut c at_place → (words : List ℕ) → Going (IsValued at_place words) spare go (rest at_place words)) → (at : At) (here : Here) → Near (spare + 20) at here → P at.state.frame.mode at.state.frame.outer at.state.frame.begun
           → (r : Result (Option Place) Trap) → ((at_place : Option Place) → r ≡ Ok at_place → MayPut c at_place)
           → Goes p Sees fuel at.state.store here.standing
           (deed c (act.Value k) (Ends (λ at_place words. record at.state.frame { target = Some at_place; args = Some words }) at.state.store r) (straight go)
@@ -262,15 +262,16 @@ module _ (p : Planned) (Sees : Store → Small → Type 0) (fuel number : ℕ) (
 
     -- ---- a look
 
-    pub look_follows : (at_place : Option Place) (words : List ℕ) (spare : ℕ) (go : Onward) (rest : ℕ → Rest) → ((time : ℕ) → Going (IsLooked at_place words time) spare go (rest time))
-        → Going (IsValued at_place words) (spare + 6) (act_steps d (act.Look k) (straight go)) (look k rest)
-    look_follows at_place words spare go rest follows at here related known =
+    pub look_follows : (K : Claim) (L : ℕ → Claim) (spare : ℕ) (go : Onward) (rest : ℕ → Rest) → ((time : ℕ) (f : Frame) (rs : ℕ → Option Record) → K f rs → L time (record f { time = Some time }) rs)
+        → ((time : ℕ) → Going (L time) spare go (rest time)) → Going K (spare + 6) (act_steps d (act.Look k) (straight go)) (look k rest)
+    look_follows K L spare go rest step follows at here related known =
         let time = next_look here.standing.account.looks in
         let time' = next_look at.state.looks in
         let same_time : time' ≡ time = ap next_look related.stands.looks in
         let begun : At = record at { weights = at.weights + 6 } in
         let s = after_event (looks k time') at.state in
         let here' = with_looks (drop 1 here.standing.account.looks) here in
+        let frame : Frame = record at.state.frame { time = Some time' } in
         let change : State → State = λ after. record after { frame = record at.state.frame { time = Some time' } } in
         let stands = look_stands c at.state here related.stands in
         shown_goes p Sees fuel (act.Look k) None (looks k time') (act_end c (act.Look k) change go) begun here.standing (logged (looks k time) None here') (rest time here')
@@ -283,11 +284,11 @@ module _ (p : Planned) (Sees : Store → Small → Type 0) (fuel number : ℕ) (
           stands = stands;
           weights = (let few = related.weights in omega (arith, few));
           within = related.within;
-        }) (known.0, known.1, known.2, ap Some same_time)))
+        }) (subst (λ x. L x frame here.standing.account.records) same_time (step time' at.state.frame here.standing.account.records known))))
 
     -- ---- a drop, whatever is known that a drop leaves
 
-    drop_follows : (K L : Claim) (j spare : ℕ) (go : Onward) (rest : Rest) → ((f : Frame) (rs : ℕ → Option Record) → K f rs → L f (put j None rs)) → Going L spare go rest
+    pub drop_follows : (K L : Claim) (j spare : ℕ) (go : Onward) (rest : Rest) → ((f : Frame) (rs : ℕ → Option Record) → K f rs → L f (put j None rs)) → Going L spare go rest
         → Going K (spare + 4) (act_steps d (act.Drop j) (straight go)) (drop_one j rest)
     drop_follows K L j spare go rest step follows at here related known =
         let begun : At = record at { weights = at.weights + 4 } in
@@ -352,7 +353,7 @@ module _ (p : Planned) (Sees : Store → Small → Type 0) (fuel number : ℕ) (
     -- ---- the seal of a call
 
     pub seal_follows : (ann : Ann) (at_place : Option Place) (words : List ℕ) (time word spare : ℕ) (go : Onward) (rest : Rest) → site_at t.sites k ≡ Some (site.Io ann)
-        → Going (λ f rs. P f.outer f.begun × (f.target ≡ Some at_place) × (f.word ≡ Some word)) spare go rest
+        → Going (λ f rs. P f.mode f.outer f.begun × (f.target ≡ Some at_place) × (f.word ≡ Some word)) spare go rest
         → Going (IsIssued at_place time word) (spare + 8) (act_steps d (act.Seal k) (straight go)) (seal k (of_reading word time words) rest)
     seal_follows ann at_place words time word spare go rest standing follows at here related known =
         let begun : At = record at { weights = at.weights + 8 } in
@@ -378,7 +379,7 @@ module _ (p : Planned) (Sees : Store → Small → Type 0) (fuel number : ℕ) (
             (silent_goes p Sees fuel (act.Seal k) (puts_stamp k time) (small c (act.Seal k) (writing (puts_flag k s0.epoch) (seals k)) (act_end c (act.Seal k) same go)) (with_state s1 begun) here.standing _ stands2
             (shown_goes p Sees fuel (act.Seal k) (Some (puts_flag k s0.epoch)) (seals k) (act_end c (act.Seal k) same go) (with_state s2 begun) here.standing (logged (seals k) None here') (rest here')
             (record { event = refl; weights = (let few = related.weights in omega (arith, few)); committed = refl; stands = stands3; leads = tt })
-            (same_goes p Sees fuel number t there again (λ f rs. P f.outer f.begun × (f.target ≡ Some at_place) × (f.word ≡ Some word)) spare (act.Seal k) go rest follows (with_state s3 begun) here' later (known.0, known.1, known.3)))) in
+            (same_goes p Sees fuel number t there again (λ f rs. P f.mode f.outer f.begun × (f.target ≡ Some at_place) × (f.word ≡ Some word)) spare (act.Seal k) go rest follows (with_state s3 begun) here' later (known.0, known.1, known.3)))) in
         let log = seal k (of_reading word time words) rest here in
         let with_time = subst (λ (o : Option ℕ). Goes p Sees fuel s0.store here.standing (deed c (act.Seal k) (have o (Sealed s0 word)) (straight go) begun) log) (sym known.2) told in
         let with_word = subst (λ (o : Option ℕ). Goes p Sees fuel s0.store here.standing (deed c (act.Seal k) (have o (λ w. have s0.frame.time (Sealed s0 w))) (straight go) begun) log) (sym known.3) with_time in
@@ -428,7 +429,7 @@ module _ (p : Planned) (Sees : Store → Small → Type 0) (fuel number : ℕ) (
           within = related.within;
         }) known.0 known.2)
       where
-        by_place : (o : Option Place) → MayPut c o → (at : At) (here : Here) → Near spare at here → P at.state.frame.outer at.state.frame.begun → at.state.frame.word ≡ Some word
+        by_place : (o : Option Place) → MayPut c o → (at : At) (here : Here) → Near spare at here → P at.state.frame.mode at.state.frame.outer at.state.frame.begun → at.state.frame.word ≡ Some word
             → Goes p Sees fuel at.state.store here.standing (deed c (act.Write k) (write_done c o at.state) (straight go) at) (rest (put_into o word here))
         by_place None may at here related outer known = same_goes p Sees fuel number t there again (Beside P) spare (act.Write k) go rest follows at here related outer
         by_place (Some a) may at here related outer known =
@@ -450,7 +451,7 @@ module _ (p : Planned) (Sees : Store → Small → Type 0) (fuel number : ℕ) (
               stands = stands;
               weights = related.weights;
               within = related.within;
-            }) (subst (λ f. P f.outer f.begun) (sym frame) outer))))
+            }) (subst (λ f. P f.mode f.outer f.begun) (sym frame) outer))))
 
     -- what needs less may have more to spare
     spares : (K : Claim) (few many : ℕ) → few ≤ many → (go : Onward) (rest : Rest) → Going K few go rest → Going K many go rest
@@ -540,8 +541,8 @@ module _ (p : Planned) (Sees : Store → Small → Type 0) (fuel number : ℕ) (
             (take_follows at_place word (0 + 6) followed writes (behind at_place word) (write_so at_place may word) ann standing)) in
         let choose_so = (λ (at_place : Option Place) (may : MayPut c at_place) (words : List ℕ) (time : ℕ).
             choose_follows ann n at_place words time (30 + 4 * js) (issue_acts a k) (act.Take k ∷ []) writes (behind at_place) standing (issues_so at_place may words time) (keeps_so at_place may words time)) in
-        let look_so = (λ (at_place : Option Place) (may : MayPut c at_place) (words : List ℕ). look_follows at_place words (30 + 4 * js + 30) (act_run d again (act.Choose k (issue_acts a k) (act.Take k ∷ [])) writes)
-            (call_inside setting k n at_place words rest) (choose_so at_place may words)) in
+        let look_so = (λ (at_place : Option Place) (may : MayPut c at_place) (words : List ℕ). look_follows (IsValued at_place words) (IsLooked at_place words) (30 + 4 * js + 30) (act_run d again (act.Choose k (issue_acts a k) (act.Take k ∷ [])) writes)
+            (call_inside setting k n at_place words rest) (λ time f rs h. (h.0, h.1, h.2, refl)) (choose_so at_place may words)) in
         value_follows target q args (30 + 4 * js + 30 + 6) (acts_run d again (act.Look k ∷ act.Choose k (issue_acts a k) (act.Take k ∷ []) ∷ act.Write k ∷ []) go)
         (λ at_place words. look k (call_inside setting k n at_place words rest)) found all look_so at (spent (call_steps t k) here) (record {
           store = related.store;

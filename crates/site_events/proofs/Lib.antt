@@ -1,4 +1,6 @@
 pub mod Acts
+pub mod Blocks
+pub mod Bodies
 pub mod Calls
 pub mod Places
 pub mod Records

@@ -62,13 +62,19 @@ module _ (p : Planned) (Sees : Store → Small → Type 0) (fuel : ℕ) where
   abbrev pub shown_after : Option CellWrite → JournalEvent → State → State
   shown_after w e s = after_written p.rules.core w (after_shown (Some e) s)
 
+  -- it is a small step itself
+  pub first_goes : (a : Act) (w : Option CellWrite) (e : JournalEvent) (go : Onward) (at : At) (st : Standing) (l : Logged) (log : Log)
+      → Meets p e (committed_by (Some e) at.state.store st.committed) (record { act = a; atom = record { write = w; event = Some e }; after = shown_after w e at.state; weights = at.weights }) l
+      → Behind l.after (shown_after w e at.state) go at log → Goes p Sees (suc fuel) at.state.store st (small p.rules.core a (record { write = w; event = Some e }) go at) (l ∷ log)
+  first_goes a w e go at st l log meets goes zero low seen = tt
+  first_goes a w e go at st l log meets goes (suc m) low seen =
+      let s = shown_after w e at.state in
+      (meets, inr (goes m (omega (arith, low)) (subst (λ now. AreSeen Sees now s.store (take m (go (with_state s at)))) meets.committed seen.1)))
+
   pub shown_goes : (a : Act) (w : Option CellWrite) (e : JournalEvent) (go : Onward) (at : At) (st : Standing) (l : Logged) (log : Log)
       → Meets p e (committed_by (Some e) at.state.store st.committed) (record { act = a; atom = record { write = w; event = Some e }; after = shown_after w e at.state; weights = at.weights }) l
       → Behind l.after (shown_after w e at.state) go at log → GoesOn at.state.store st (small p.rules.core a (record { write = w; event = Some e }) go at) (l ∷ log)
-  shown_goes a w e go at st l log meets goes zero low seen = tt
-  shown_goes a w e go at st l log meets goes (suc m) low seen =
-      let s = shown_after w e at.state in
-      (meets, inr (goes m (omega (arith, low)) (subst (λ now. AreSeen Sees now s.store (take m (go (with_state s at)))) meets.committed seen.1)))
+  shown_goes a w e go at st l log meets goes m low = first_goes a w e go at st l log meets goes m (omega (arith, low))
 
   -- an act's end
   pub end_goes : (a : Act) (change : State → State) (go : Onward) (at : At) (left : Store) (st : Standing) (log : Log) → StandsAt p.rules.core (view (change at.state)) st
