@@ -1,6 +1,6 @@
 -- An attempt of a task with calls and blocks tells what the rules say, from its beginning to its commit, and so do attempts
 -- one after another.
-use Rattle.std.proofs.Common.{◌≡◌, ◌∙◌, ℕ, zero, suc, ◌+◌, ◌*◌, ◌≤◌, List, [], ◌∷◌, ◌++◌, length, map, get_or, slice_get, slice_index_or, refl, sym, ap, subst, arith}
+use Rattle.std.proofs.Common.{◌≡◌, ◌∙◌, ℕ, zero, suc, ◌+◌, ◌*◌, ◌≤◌, false, List, [], ◌∷◌, ◌++◌, length, map, get_or, slice_get, slice_index_or, refl, sym, ap, subst, arith}
 use Rattle.std.specs.Prelude.{⊤, Option, Some, None, sum_by}
 use Rattle.std.specs.List.{AllByRecursion, range_with_len}
 use Rattle.std.proofs.lemmas.List.FromFn.{length-range_with_len}
@@ -40,7 +40,7 @@ use Rattle.plan_restore.proofs.Solid.{body_solid}
 use Rattle.plan_laws.specs.PlacedSites.{task_placed, Next}
 use Rattle.site_events.specs.Records.{view}
 use Rattle.site_events.specs.Standing.{StandsAt}
-use Rattle.site_events.specs.Follows.{PointsWithin, Goes}
+use Rattle.site_events.specs.Follows.{PointsWithin, Told, Goes}
 use Rattle.site_events.specs.NoCopies.{HasNoCopy, HasNoCopies}
 use Rattle.site_events.proofs.Places.{IsUnseen, restores_unseen, all_view, all_stand}
 use Rattle.site_events.proofs.Telling.{nothing_goes, first_goes, writes_go, end_goes}
@@ -226,8 +226,11 @@ module _ (c : Core) (world : World) (scheme : Scheme) (bare : BareLog (rules_of 
 
     -- as many attempts as there are of the plan, or more of the rules, go on for as many small steps
     pub attempts_go : (i j : ℕ) → i ≤ j → Goings i (attempts p i) (attempts_log (rules_of c world) j)
-    attempts_go zero j fewer at here stands few zero low seen = tt
-    attempts_go zero j fewer at here stands few (suc m) low seen = absurd (omega (arith, low))
+    attempts_go zero j fewer at here stands few = none_asked
+      where
+        none_asked : (m : ℕ) → m ≤ 0 → Told p (IsKept p) 0 m at.state.store here.standing [] (attempts_log (rules_of c world) j here)
+        none_asked zero low seen = tt
+        none_asked (suc m) low seen = absurd (omega (arith, low))
     attempts_go (suc i) zero fewer at here stands few = absurd (omega (arith, fewer))
     attempts_go (suc i) (suc j) fewer at here stands few =
         subst (λ n. Goes p (IsKept p) (suc i) at.state.store here.standing (attempts p (suc i) at) (Boots.attempt_if_there (rules_of c world) (task_of c n) (attempts_log (rules_of c world) j) here)) stands.next

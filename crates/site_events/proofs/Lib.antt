@@ -1,8 +1,14 @@
 pub mod Acts
+pub mod Attempts
 pub mod Blocks
 pub mod Bodies
+pub mod Boots
 pub mod Calls
+pub mod Cuts
 pub mod Places
 pub mod Records
+pub mod Runs
+pub mod States
 pub mod Stores
 pub mod Telling
+pub mod Traps
