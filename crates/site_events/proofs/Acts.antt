@@ -72,14 +72,14 @@ module _ (p : Planned) (Sees : Store → Small → Type 0) (fuel number : ℕ) (
   abbrev pub Pair : (spare : ℕ) → At → Here → Type 0
   Pair spare at here = Related p Sees fuel number t spare at here
 
-  abbrev pub Go : Known p Sees fuel → (spare : ℕ) → Onward → Rest → Type 0
+  abbrev pub Go : Known → (spare : ℕ) → Onward → Rest → Type 0
   Go K spare go rest = Follows p Sees fuel number t K spare go rest
 
   -- the sites are those of the task
   pub sites_are : (spare : ℕ) (at : At) (here : Here) → Pair spare at here → sites_of c at.state.task ≡ t.sites
   sites_are spare at here related = ap sites_in (ap (task_of c) (related.stands.next ∙ related.running) ∙ there)
 
-  ends_go : (K : Known p Sees fuel) (spare : ℕ) (a : Act) (go : Onward) (rest : Rest) → Go K spare go rest → (writes : List Write) (r : Ran) → AllByRecursion (WriteMay (NotConst c)) writes → PointsWithin (pointing t) (store_left r)
+  ends_go : (K : Known) (spare : ℕ) (a : Act) (go : Onward) (rest : Rest) → Go K spare go rest → (writes : List Write) (r : Ran) → AllByRecursion (WriteMay (NotConst c)) writes → PointsWithin (pointing t) (store_left r)
       → (at : At) (here : Here) → after_writes writes at.state.store ≡ store_left r → at.state.frame.mode ≡ Some here.mode → here.standing.next ≡ number → StandsAt c (view at.state) here.standing
       → at.weights + spare ≤ here.steps p.plan.scheme → K at.state.frame here.standing.account.records
       → Goes p Sees fuel at.state.store here.standing (deed c a (plain_ends c (map silent (home_writes c writes)) r) (straight go) at) (from_ran r rest here)
@@ -112,7 +112,7 @@ module _ (p : Planned) (Sees : Store → Small → Type 0) (fuel number : ℕ) (
   Given given = (q x : ℕ) → has (given q) x ≡ true → has (pointing t q) x ≡ true
 
   -- a statement without sites
-  pub plain_follows : (K : Known p Sees fuel) (spare : ℕ) (s : CoreStmt) → AllByRecursion (TouchMay (NotConst c)) (touches (pointing t) s) → Given (λ q. addresses q s) → (go : Onward) (rest : Rest) → Go K spare go rest
+  pub plain_follows : (K : Known) (spare : ℕ) (s : CoreStmt) → AllByRecursion (TouchMay (NotConst c)) (touches (pointing t) s) → Given (λ q. addresses q s) → (go : Onward) (rest : Rest) → Go K spare go rest
       → Go K spare (act_steps d (act.Plain s) (straight go)) (plain_log s rest)
   plain_follows K spare s all given go rest follows at here related known =
       let steps = plain_steps s at.state.store in
@@ -124,18 +124,18 @@ module _ (p : Planned) (Sees : Store → Small → Type 0) (fuel number : ℕ) (
       subst (λ store. Goes p Sees fuel at.state.store here.standing (act_steps d (act.Plain s) (straight go) at) (from_ran (plain_done s store) rest (spent (plain_steps s store) here))) related.store told
 
   -- an act that changes nothing at its end
-  pub same_goes : (K : Known p Sees fuel) (spare : ℕ) (a : Act) (go : Onward) (rest : Rest) → Go K spare go rest → (at : At) (here : Here) → Pair spare at here → K at.state.frame here.standing.account.records
+  pub same_goes : (K : Known) (spare : ℕ) (a : Act) (go : Onward) (rest : Rest) → Go K spare go rest → (at : At) (here : Here) → Pair spare at here → K at.state.frame here.standing.account.records
       → Goes p Sees fuel at.state.store here.standing (act_end c a same go at) (rest here)
   same_goes K spare a go rest follows at here related known = end_goes p Sees fuel a same go at at.state.store here.standing (rest here) related.stands (λ seen. follows at here related known)
 
   -- a condition, and the way that it takes
-  value_goes : (K : Known p Sees fuel) (spare : ℕ) (a : Act) (x y go : Onward) (front other : Rest) → Go K spare x front → Go K spare y other → (r : Result ℕ Trap) (at : At) (here : Here) → Pair spare at here → K at.state.frame here.standing.account.records
+  value_goes : (K : Known) (spare : ℕ) (a : Act) (x y go : Onward) (front other : Rest) → Go K spare x front → Go K spare y other → (r : Result ℕ Trap) (at : At) (here : Here) → Pair spare at here → K at.state.frame here.standing.account.records
       → Goes p Sees fuel at.state.store here.standing (deed c a (unless_fails r (λ word. does [] same (chosen word first_way second_way))) (by_way x y go go) at) (unless_trap r (λ word. chosen word front other) here)
   value_goes K spare a x y go front other fx fy (Ok zero) at here related known = same_goes K spare a y other fy at here related known
   value_goes K spare a x y go front other fx fy (Ok (suc n)) at here related known = same_goes K spare a x front fx at here related known
   value_goes K spare a x y go front other fx fy (Err why) at here related known = trap_goes p Sees fuel at.state.store a why at here related.stands (no_spare spare _ _ related.weights)
 
-  pub test_follows : (K : Known p Sees fuel) (spare : ℕ) (e : CoreExpr) (ys ns : List Act) (go : Onward) (front other : Rest) → Go K spare (acts_run d again ys go) front → Go K spare (acts_run d again ns go) other
+  pub test_follows : (K : Known) (spare : ℕ) (e : CoreExpr) (ys ns : List Act) (go : Onward) (front other : Rest) → Go K spare (acts_run d again ys go) front → Go K spare (acts_run d again ns go) other
       → Go K spare (act_run d again (act.Test e ys ns) go) (branch e front other)
   test_follows K spare e ys ns go front other fx fy =
       subst (λ (f : Onward). Go K spare f (branch e front other)) (sym (run_test d again e ys ns go))
@@ -149,7 +149,7 @@ module _ (p : Planned) (Sees : Store → Small → Type 0) (fuel number : ℕ) (
   -- ---- saving
 
   -- what a region may write first is copied aside, unless its lock holds
-  pub save_follows : (K : Known p Sees fuel) (spare r : ℕ) (go : Onward) (rest : Rest) → Go K spare go rest → Go K (spare + (6 + 12 * region_words d r)) (act_steps d (act.Save r) (straight go)) rest
+  pub save_follows : (K : Known) (spare r : ℕ) (go : Onward) (rest : Rest) → Go K spare go rest → Go K (spare + (6 + 12 * region_words d r)) (act_steps d (act.Save r) (straight go)) rest
   save_follows K spare r go rest follows at here related known =
       let places = cond (lock_holds at.state r) [] (first_places d r) in
       let writes = save_writes at.state places in
@@ -170,7 +170,7 @@ module _ (p : Planned) (Sees : Store → Small → Type 0) (fuel number : ℕ) (
       }) (subst (λ f. K f here.standing.account.records) (sym frame) known))
 
   -- the lock of a region that was reached, or of the one behind
-  pub lock_follows : (K : Known p Sees fuel) (spare r : ℕ) → ((here : Here) → r ≤ here.standing.account.furthest + 1) → (go : Onward) (rest : Rest) → Go K spare go rest → Go K (spare + 2) (act_steps d (act.Lock r) (straight go)) rest
+  pub lock_follows : (K : Known) (spare r : ℕ) → ((here : Here) → r ≤ here.standing.account.furthest + 1) → (go : Onward) (rest : Rest) → Go K spare go rest → Go K (spare + 2) (act_steps d (act.Lock r) (straight go)) rest
   lock_follows K spare r reached go rest follows at here related known =
       let begun : At = record at { weights = at.weights + 2 } in
       let s = after_write c.arrays (puts_lock r at.state.epoch) at.state in
@@ -191,7 +191,7 @@ module _ (p : Planned) (Sees : Store → Small → Type 0) (fuel number : ℕ) (
   abbrev pub Again : Rest → Type 0
   Again rest = (at : At) (here : Here) → StandsAt c (view at.state) here.standing → at.weights ≤ here.steps p.plan.scheme → Goes p Sees fuel at.state.store here.standing (again at) (rest here)
 
-  module _ (rest : Rest) (follows : Again rest) (K : Known p Sees fuel) where
+  module _ (rest : Rest) (follows : Again rest) (K : Known) where
     commit_follows : (n : ℕ) → n ≤ length c.tasks → (go : Onward) → Go K 0 (act_run d again (act.Commit n) go) (commit rest n)
     commit_follows n few go at here related known =
         let bank = next_bank p.plan.scheme at.state.bank in

@@ -40,12 +40,11 @@ use Rattle.plan_restore.proofs.Solid.{body_solid}
 use Rattle.plan_laws.specs.PlacedSites.{task_placed, Next}
 use Rattle.site_events.specs.Records.{view}
 use Rattle.site_events.specs.Standing.{StandsAt}
-use Rattle.site_events.specs.Follows.{PointsWithin, Told, Goes}
+use Rattle.site_events.specs.Follows.{PointsWithin, Outer, Beside, Told, Goes}
 use Rattle.site_events.specs.NoCopies.{HasNoCopy, HasNoCopies}
 use Rattle.site_events.proofs.Places.{IsUnseen, restores_unseen, all_view, all_stand}
 use Rattle.site_events.proofs.Telling.{nothing_goes, first_goes, writes_go, end_goes}
 use Rattle.site_events.proofs.Acts.{Go, Again, save_follows, lock_follows, exit_follows}
-use Rattle.site_events.proofs.Calls.{Outer, Beside}
 use Rattle.site_events.proofs.Bodies.{BareLog, body_follows}
 
 -- ---- tables by tasks
@@ -142,7 +141,7 @@ module _ (c : Core) (world : World) (scheme : Scheme) (bare : BareLog (rules_of 
     d = doing p number t
 
     abbrev Going : (spare : ℕ) → Onward → Rest → Type 0
-    Going spare go rest = Go p (IsKept p) fuel number t there again (Beside p (IsKept p) fuel number t there again no_blocks) spare go rest
+    Going spare go rest = Go p (IsKept p) fuel number t there again (Beside no_blocks) spare go rest
 
     -- what is saved of region 0 is what it may write first
     words_there : region_words d 0 ≡ first_words c t 0
@@ -151,7 +150,7 @@ module _ (c : Core) (world : World) (scheme : Scheme) (bare : BareLog (rules_of 
     saved_follows : (k : Scheme) (go : Onward) (rest : Rest) → Going 0 go rest → Going (saving k (region_words d 0)) (acts_run d again (save_acts k 0) go) rest
     saved_follows Bank go rest follows = follows
     saved_follows Undo go rest follows =
-        let K = Beside p (IsKept p) fuel number t there again no_blocks in
+        let K = Beside no_blocks in
         save_follows p (IsKept p) fuel number t there again K (0 + 2) 0 (act_steps d (act.Lock 0) (straight go)) rest
         (lock_follows p (IsKept p) fuel number t there again K 0 0 (λ here. omega arith) go rest follows)
 
@@ -188,7 +187,7 @@ module _ (c : Core) (world : World) (scheme : Scheme) (bare : BareLog (rules_of 
     pub attempt_goes : (rest : Rest) → Again p (IsKept p) fuel number t there again rest → (at : At) (here : Here) → number ≡ here.standing.next → StandsAt c (view at.state) here.standing → at.weights ≤ here.steps scheme
         → Goes p (IsKept p) (suc fuel) at.state.store here.standing (acts_run d again (task_acts scheme number t) nothing at) (attempt_log (setting_of (rules_of c world) t) rest here)
     attempt_goes rest follows at here which stands few =
-        let K = Beside p (IsKept p) fuel number t there again no_blocks in
+        let K = Beside no_blocks in
         let setting = setting_of (rules_of c world) t in
         let body = body_acts (around scheme t) t.body in
         let leave = exit_act t.exit ∷ [] in

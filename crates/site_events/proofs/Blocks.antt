@@ -31,20 +31,12 @@ use Rattle.run_plan.specs.Runs.{Small, At, Onward, Planned, with_state, doing, s
 use Rattle.run_plan.specs.RunRows.{run_leave, run_joined}
 use Rattle.site_events.specs.Records.{View, view, holds, Says, IsRecord, kept_from}
 use Rattle.site_events.specs.Standing.{sites_of}
-use Rattle.site_events.specs.Follows.{Known, Goes}
+use Rattle.site_events.specs.Follows.{Known, Outer, Beside, Stable, Inside, Goes}
 use Rattle.site_events.proofs.Records.{put_here, put_other}
 use Rattle.site_events.proofs.Places.{stamp_stands, seal_stands}
 use Rattle.site_events.proofs.Telling.{silent_goes, shown_goes, end_goes}
 use Rattle.site_events.proofs.Acts.{Pair, Go, sites_are, same_goes}
-use Rattle.site_events.proofs.Calls.{Outer, Beside, look_follows, drop_follows}
-
--- what is known speaks of the blocks up to a site alone
-abbrev pub Stable : Outer → (most : ℕ) → Type 0
-Stable P most = (m : Option Mode) (o u : ℕ → Option Mode) (b v : ℕ → Option ℕ) → ((j : ℕ) → j ≤ most → o j ≡ u j) → ((j : ℕ) → j ≤ most → b j ≡ v j) → P m o b → P m u v
-
--- in the body of a block the mode is that inside, and the mode outside and the time of its beginning are noted
-abbrev pub Inside : Outer → (site : ℕ) → (outside inside : Mode) → (time : ℕ) → Outer
-Inside P k outside inside time m o b = (m ≡ Some inside) × (o k ≡ Some outside) × (b k ≡ Some time) × P (Some outside) o b
+use Rattle.site_events.proofs.Calls.{look_follows, drop_follows}
 
 -- what a block's flag and stamp give is what its record gives
 stamp_is : (v : View) (start k : ℕ) (ann : Ann) (r : Option Record) → IsRecord v start k r (Some (site.Block ann)) → cond (holds v k) (Some (v.stamp k)) None ≡ stamp_in r
@@ -63,25 +55,19 @@ module _ (p : Planned) (Sees : Store → Small → Type 0) (fuel number : ℕ) (
   abbrev setting : Setting
   setting = setting_of p.rules t
 
-  abbrev Claim : Type 1
-  Claim = Known p Sees fuel
-
-  abbrev Going : Claim → (spare : ℕ) → Onward → Rest → Type 0
+  abbrev Going : Known → (spare : ℕ) → Onward → Rest → Type 0
   Going K spare go rest = Go p Sees fuel number t there again K spare go rest
 
   abbrev Near : (spare : ℕ) → At → Here → Type 0
   Near spare at here = Pair p Sees fuel number t there again spare at here
 
-  abbrev Around : Outer → Claim
-  Around P = Beside p Sees fuel number t there again P
-
   module _ (P : Outer) (k : ℕ) (ann : Ann) (standing : site_at t.sites k ≡ Some (site.Block ann)) where
     -- ---- its beginning
 
-    abbrev IsLooked : (time : ℕ) → Claim
+    abbrev IsLooked : (time : ℕ) → Known
     IsLooked time f rs = P f.mode f.outer f.begun × (f.time ≡ Some time)
 
-    enter_follows : (most : ℕ) → k ≡ most + 1 → Stable P most → (time spare : ℕ) (go : Onward) (rest : (outside inside : Mode) → Rest) → ((outside inside : Mode) → Going (Around (Inside P k outside inside time)) spare go (rest outside inside))
+    enter_follows : (most : ℕ) → k ≡ most + 1 → Stable P most → (time spare : ℕ) (go : Onward) (rest : (outside inside : Mode) → Rest) → ((outside inside : Mode) → Going (Beside (Inside P k outside inside time)) spare go (rest outside inside))
         → Going (IsLooked time) (spare + 40) (act_steps d (act.Enter k) (straight go))
         (λ before. (let inside = entered before.mode (annotation setting k) (stamp_in (before.standing.account.records k)) time in rest before.mode inside (with_mode inside before)))
     enter_follows most is stable time spare go rest follows at here related known =
@@ -122,13 +108,13 @@ module _ (p : Planned) (Sees : Store → Small → Type 0) (fuel number : ℕ) (
 
     -- ---- its end
 
-    abbrev IsClosing : (time : ℕ) → Claim
+    abbrev IsClosing : (time : ℕ) → Known
     IsClosing time f rs = P f.mode f.outer f.begun × (f.begun k ≡ Some time)
 
-    abbrev IsClosed : (time : ℕ) → Claim
+    abbrev IsClosed : (time : ℕ) → Known
     IsClosed time f rs = IsClosing time f rs × (rs k ≡ None)
 
-    block_seal_follows : (time spare : ℕ) (go : Onward) (rest : Rest) → Going (Around P) spare go rest → Going (IsClosed time) (spare + 8) (act_steps d (act.Seal k) (straight go)) (seal k (of_block time) rest)
+    block_seal_follows : (time spare : ℕ) (go : Onward) (rest : Rest) → Going (Beside P) spare go rest → Going (IsClosed time) (spare + 8) (act_steps d (act.Seal k) (straight go)) (seal k (of_block time) rest)
     block_seal_follows time spare go rest follows at here related known =
         let begun : At = record at { weights = at.weights + 8 } in
         let s0 = at.state in
@@ -149,17 +135,17 @@ module _ (p : Planned) (Sees : Store → Small → Type 0) (fuel number : ℕ) (
         let told = silent_goes p Sees fuel (act.Seal k) (puts_stamp k time) (small c (act.Seal k) (writing (puts_flag k s0.epoch) (seals k)) (act_end c (act.Seal k) same go)) begun here.standing _ stands1
             (shown_goes p Sees fuel (act.Seal k) (Some (puts_flag k s0.epoch)) (seals k) (act_end c (act.Seal k) same go) (with_state s1 begun) here.standing (logged (seals k) None here') (rest here')
             (record { event = refl; weights = (let few = related.weights in omega (arith, few)); committed = refl; stands = stands2; leads = tt })
-            (same_goes p Sees fuel number t there again (Around P) spare (act.Seal k) go rest follows (with_state s2 begun) here' later known.0.0)) in
+            (same_goes p Sees fuel number t there again (Beside P) spare (act.Seal k) go rest follows (with_state s2 begun) here' later known.0.0)) in
         let log = seal k (of_block time) rest here in
         let with_time = subst (λ (o : Option ℕ). Goes p Sees fuel s0.store here.standing (deed c (act.Seal k) (have o (λ time. sealed k (puts_stamp k time ∷ puts_flag k s0.epoch ∷ []))) (straight go) begun) log) (sym known.0.1) told in
         subst (λ (o : Option Site). Goes p Sees fuel s0.store here.standing (deed c (act.Seal k) (seal_done o k s0) (straight go) (record at { weights = at.weights + seal_weight o })) log) (sym standing) with_time
 
-    sealing_follows : (time : ℕ) (go : Onward) (rest : Rest) → Going (Around P) 0 go rest → Going (IsClosing time) 12 (acts_run d again (block_end_acts k) go) (drop_one k (seal k (of_block time) rest))
+    sealing_follows : (time : ℕ) (go : Onward) (rest : Rest) → Going (Beside P) 0 go rest → Going (IsClosing time) 12 (acts_run d again (block_end_acts k) go) (drop_one k (seal k (of_block time) rest))
     sealing_follows time go rest follows =
         drop_follows p Sees fuel number t there again P k (IsClosing time) (IsClosed time) k (0 + 8) (act_steps d (act.Seal k) (straight go)) (seal k (of_block time) rest) (λ f rs h. (h, put_here k None rs)) (block_seal_follows time 0 go rest follows)
 
     -- by the mode inside
-    left_goes : (outside inside : Mode) (time : ℕ) (go : Onward) (rest : Rest) → Going (Around P) 0 go rest → (a : Act) (at : At) (here : Here) → Near 12 at (with_mode inside here)
+    left_goes : (outside inside : Mode) (time : ℕ) (go : Onward) (rest : Rest) → Going (Beside P) 0 go rest → (a : Act) (at : At) (here : Here) → Near 12 at (with_mode inside here)
         → P (Some outside) at.state.frame.outer at.state.frame.begun → at.state.frame.begun k ≡ Some time
         → Goes p Sees fuel at.state.store here.standing (deed c a (does [] (λ after. record after { frame = record at.state.frame { mode = Some outside } }) (leaving inside)) (by_way (acts_run d again (block_end_acts k) go) go go go) at)
         (block_sealed k time inside (λ after. rest (with_mode outside after)) here)
@@ -188,10 +174,10 @@ module _ (p : Planned) (Sees : Store → Small → Type 0) (fuel number : ℕ) (
         by_mode mode.Own w is = seals_so
         by_mode mode.Force w is = seals_so
 
-    leave_follows : (outside inside : Mode) (time : ℕ) (go : Onward) (rest : Rest) → Going (Around P) 0 go rest
-        → Going (Around (Inside P k outside inside time)) 0 (act_run d again (act.Leave k (block_end_acts k)) go) (block_end k time outside inside rest)
+    leave_follows : (outside inside : Mode) (time : ℕ) (go : Onward) (rest : Rest) → Going (Beside P) 0 go rest
+        → Going (Beside (Inside P k outside inside time)) 0 (act_run d again (act.Leave k (block_end_acts k)) go) (block_end k time outside inside rest)
     leave_follows outside inside time go rest follows =
-        subst (λ (f : Onward). Going (Around (Inside P k outside inside time)) 0 f (block_end k time outside inside rest)) (sym (run_leave d again k (block_end_acts k) go))
+        subst (λ (f : Onward). Going (Beside (Inside P k outside inside time)) 0 f (block_end k time outside inside rest)) (sym (run_leave d again k (block_end_acts k) go))
         (λ at here related known.
         let a = act.Leave k (block_end_acts k) in
         let ways = by_way (acts_run d again (block_end_acts k) go) go go go in
@@ -213,15 +199,15 @@ module _ (p : Planned) (Sees : Store → Small → Type 0) (fuel number : ℕ) (
     -- What a block's acts do is what the rules say of it, if its body's acts do what they say of the body, and what comes
     -- behind does what they say behind it.
     pub block_follows : (most : ℕ) → k ≡ most + 1 → Stable P most → (body : List Act) (inner : Rest → Rest)
-        → ((outside inside : Mode) (time : ℕ) (go : Onward) (rest : Rest) → Going (Around (Inside P k outside inside time)) 0 go rest → Going (Around (Inside P k outside inside time)) 0 (acts_run d again body go) (inner rest))
-        → (go : Onward) (rest : Rest) → Going (Around P) 0 go rest → Going (Around P) 0 (acts_run d again (block_acts k body) go) (block_log setting k inner rest)
+        → ((outside inside : Mode) (time : ℕ) (go : Onward) (rest : Rest) → Going (Beside (Inside P k outside inside time)) 0 go rest → Going (Beside (Inside P k outside inside time)) 0 (acts_run d again body go) (inner rest))
+        → (go : Onward) (rest : Rest) → Going (Beside P) 0 go rest → Going (Beside P) 0 (acts_run d again (block_acts k body) go) (block_log setting k inner rest)
     block_follows most is stable body inner body_so go rest follows at here related outer =
         let leave = act.Leave k (block_end_acts k) in
         let leaving_run = act_run d again leave go in
         let joined : acts_run d again (body ++ leave ∷ []) go ≡ acts_run d again body leaving_run = run_joined d again body (leave ∷ []) go in
         let enter_so = (λ (time : ℕ). enter_follows most is stable time 0 (acts_run d again body leaving_run) (λ outside inside. inner (block_end k time outside inside rest))
             (λ outside inside. body_so outside inside time leaving_run (block_end k time outside inside rest) (leave_follows outside inside time go rest follows))) in
-        let look_so = look_follows p Sees fuel number t there again P k (Around P) IsLooked (0 + 40) (act_steps d (act.Enter k) (straight (acts_run d again body leaving_run))) (block_inside setting k inner rest) (λ time f rs h. (h, refl)) enter_so in
+        let look_so = look_follows p Sees fuel number t there again P k (Beside P) IsLooked (0 + 40) (act_steps d (act.Enter k) (straight (acts_run d again body leaving_run))) (block_inside setting k inner rest) (λ time f rs h. (h, refl)) enter_so in
         let told = look_so at (spent block_steps here) (record {
           store = related.store;
           mode = related.mode;

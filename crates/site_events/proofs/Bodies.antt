@@ -38,10 +38,10 @@ use Rattle.plan_laws.specs.PlacedSites.{Placed, placed_parts, same_long, row_lon
 use Rattle.plan_restore.proofs.Lists.{all_parts, is_itself, has_front, has_behind}
 use Rattle.plan_restore.proofs.Puts.{NotConst}
 use Rattle.plan_restore.proofs.Writing.{TouchMay}
-use Rattle.site_events.specs.Follows.{Known, Goes}
+use Rattle.site_events.specs.Follows.{Outer, Beside, Stable, Inside, Goes}
 use Rattle.site_events.proofs.Acts.{Go, plain_follows, test_follows}
-use Rattle.site_events.proofs.Calls.{Outer, Beside, call_follows}
-use Rattle.site_events.proofs.Blocks.{Stable, Inside, block_follows}
+use Rattle.site_events.proofs.Calls.{call_follows}
+use Rattle.site_events.proofs.Blocks.{block_follows}
 
 -- the log of a statement without sites
 abbrev pub BareLog : Rules → Type 0
@@ -145,7 +145,7 @@ module _ (p : Planned) (Sees : Store → Small → Type 0) (fuel number : ℕ) (
   setting = setting_of p.rules t
 
   abbrev Going : Outer → Onward → Rest → Type 0
-  Going P go rest = Go p Sees fuel number t there again (Beside p Sees fuel number t there again P) 0 go rest
+  Going P go rest = Go p Sees fuel number t there again (Beside P) 0 go rest
 
   -- what the task has at a site
   abbrev Has : Option CoreStmt → ℕ → Type 0
@@ -163,7 +163,7 @@ module _ (p : Planned) (Sees : Store → Small → Type 0) (fuel number : ℕ) (
       → Going P (act_run d again (act.Plain s) go) (statement_log setting s rest)
   bare_follows P s no_sites all given go rest follows at here related known =
       subst (λ log. Goes p Sees fuel at.state.store here.standing (act_run d again (act.Plain s) go at) log) (sym (bare t s no_sites rest here))
-      (plain_follows p Sees fuel number t there again (Beside p Sees fuel number t there again P) 0 s all given go rest follows at here related known)
+      (plain_follows p Sees fuel number t there again (Beside P) 0 s all given go rest follows at here related known)
 
   or_plain : (P : Outer) (ks : List ℕ) (s : CoreStmt) (test : Act) (go : Onward) (rest : Rest) → (ks ≡ [] → Going P (act_run d again (act.Plain s) go) rest) → Going P (act_run d again test go) rest
       → Going P (acts_run d again (unless_plain ks s test ∷ []) go) rest
@@ -188,7 +188,7 @@ module _ (p : Planned) (Sees : Store → Small → Type 0) (fuel number : ℕ) (
             (found_back Has q (length ks) (λ j. found_in_row j yes_row) (λ j. found_in_row j no_row) (λ j less. row_beyond yes_row q front j less) found) (stable_more P q (length ks) stable) go rest follows in
         or_plain P (ks ++ ls) (stmt.If' e m yes_row n no_row) (act.Test e (row_acts a yes_row) (row_acts a no_row)) go _
         (λ no_sites. bare_follows P (stmt.If' e m yes_row n no_row) no_sites all given go rest follows)
-        (test_follows p Sees fuel number t there again (Beside p Sees fuel number t there again P) 0 e (row_acts a yes_row) (row_acts a no_row) go (row_log setting yes_row rest) (row_log setting no_row rest) yes_so no_so)
+        (test_follows p Sees fuel number t there again (Beside P) 0 e (row_acts a yes_row) (row_acts a no_row) go (row_log setting yes_row rest) (row_log setting no_row rest) yes_so no_so)
     stmt_follows P (stmt.Loop' i turns m row) level branched w q next placed all given found stable go rest follows = bare_follows P (stmt.Loop' i turns m row) w.4 all given go rest follows
     stmt_follows P (stmt.Io k x r args) level branched w q next placed all given found stable go rest follows =
         let is = first_next k [] q next in

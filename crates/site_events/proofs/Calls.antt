@@ -55,7 +55,7 @@ use Rattle.plan_restore.proofs.Puts.{NotConst}
 use Rattle.plan_restore.proofs.Writing.{TouchMay, touched_may, target_array, as_found, ok_is}
 use Rattle.site_events.specs.Records.{View, view, holds, HasReading, Says, IsRecord, kept_from}
 use Rattle.site_events.specs.Standing.{sites_of, StandsAt}
-use Rattle.site_events.specs.Follows.{PointsWithin, Known, Related, Follows, Goes}
+use Rattle.site_events.specs.Follows.{PointsWithin, Outer, Beside, Known, Related, Follows, Goes}
 use Rattle.site_events.proofs.Records.{put_here, put_all}
 use Rattle.site_events.proofs.Places.{value_stands, stamp_stands, drop_stands, seal_stands, look_stands, issue_stands, homes_unseen, all_view, all_frame, all_stand}
 use Rattle.site_events.proofs.Stores.{writes_leave}
@@ -108,10 +108,6 @@ valued_are (Some t) args rest here = by_place (target_place t here.store)
 
 -- ---- what is known between the acts of a call
 
--- what is known of the mode and of the blocks around: the mode outside each, and its beginning
-abbrev pub Outer : Type 1
-Outer = Option Mode → (ℕ → Option Mode) → (ℕ → Option ℕ) → Type 0
-
 -- the place that a call's word goes to may be written
 abbrev pub MayPut : Core → Option Place → Type 0
 MayPut c None = Unit {0}
@@ -162,36 +158,29 @@ module _ (p : Planned) (Sees : Store → Small → Type 0) (fuel number : ℕ) (
   abbrev setting : Setting
   setting = setting_of p.rules t
 
-  abbrev Claim : Type 1
-  Claim = Known p Sees fuel
-
-  abbrev Going : Claim → (spare : ℕ) → Onward → Rest → Type 0
+  abbrev Going : Known → (spare : ℕ) → Onward → Rest → Type 0
   Going K spare go rest = Go p Sees fuel number t there again K spare go rest
 
   abbrev Near : (spare : ℕ) → At → Here → Type 0
   Near spare at here = Pair p Sees fuel number t there again spare at here
 
-  -- what is known besides, between two statements
-  abbrev pub Beside : Outer → Claim
-  Beside P f rs = P f.mode f.outer f.begun
-
   module _ (P : Outer) (k : ℕ) where
-    abbrev IsValued : Option Place → List ℕ → Claim
+    abbrev IsValued : Option Place → List ℕ → Known
     IsValued at words f rs = P f.mode f.outer f.begun × (f.target ≡ Some at) × (f.args ≡ Some words)
 
-    abbrev IsLooked : Option Place → List ℕ → (time : ℕ) → Claim
+    abbrev IsLooked : Option Place → List ℕ → (time : ℕ) → Known
     IsLooked at words time f rs = P f.mode f.outer f.begun × (f.target ≡ Some at) × (f.args ≡ Some words) × (f.time ≡ Some time)
 
-    abbrev IsDropped : Option Place → List ℕ → (time : ℕ) → Claim
+    abbrev IsDropped : Option Place → List ℕ → (time : ℕ) → Known
     IsDropped at words time f rs = IsLooked at words time f rs × (rs k ≡ None)
 
-    abbrev IsIssued : Option Place → (time word : ℕ) → Claim
+    abbrev IsIssued : Option Place → (time word : ℕ) → Known
     IsIssued at time word f rs = P f.mode f.outer f.begun × (f.target ≡ Some at) × (f.time ≡ Some time) × (f.word ≡ Some word) × (rs k ≡ None)
 
-    abbrev IsKept : Option Place → (word : ℕ) → Claim
+    abbrev IsKept : Option Place → (word : ℕ) → Known
     IsKept at word f rs = P f.mode f.outer f.begun × (f.target ≡ Some at) × ((time : ℕ) × ((args : List ℕ) × (rs k ≡ Some (of_reading word time args))))
 
-    abbrev IsTaken : Option Place → (word : ℕ) → Claim
+    abbrev IsTaken : Option Place → (word : ℕ) → Known
     IsTaken at word f rs = P f.mode f.outer f.begun × (f.target ≡ Some at) × (f.word ≡ Some word)
 
     -- ---- its target and its arguments are valued
@@ -262,7 +251,7 @@ module _ (p : Planned) (Sees : Store → Small → Type 0) (fuel number : ℕ) (
 
     -- ---- a look
 
-    pub look_follows : (K : Claim) (L : ℕ → Claim) (spare : ℕ) (go : Onward) (rest : ℕ → Rest) → ((time : ℕ) (f : Frame) (rs : ℕ → Option Record) → K f rs → L time (record f { time = Some time }) rs)
+    pub look_follows : (K : Known) (L : ℕ → Known) (spare : ℕ) (go : Onward) (rest : ℕ → Rest) → ((time : ℕ) (f : Frame) (rs : ℕ → Option Record) → K f rs → L time (record f { time = Some time }) rs)
         → ((time : ℕ) → Going (L time) spare go (rest time)) → Going K (spare + 6) (act_steps d (act.Look k) (straight go)) (look k rest)
     look_follows K L spare go rest step follows at here related known =
         let time = next_look here.standing.account.looks in
@@ -288,7 +277,7 @@ module _ (p : Planned) (Sees : Store → Small → Type 0) (fuel number : ℕ) (
 
     -- ---- a drop, whatever is known that a drop leaves
 
-    pub drop_follows : (K L : Claim) (j spare : ℕ) (go : Onward) (rest : Rest) → ((f : Frame) (rs : ℕ → Option Record) → K f rs → L f (put j None rs)) → Going L spare go rest
+    pub drop_follows : (K L : Known) (j spare : ℕ) (go : Onward) (rest : Rest) → ((f : Frame) (rs : ℕ → Option Record) → K f rs → L f (put j None rs)) → Going L spare go rest
         → Going K (spare + 4) (act_steps d (act.Drop j) (straight go)) (drop_one j rest)
     drop_follows K L j spare go rest step follows at here related known =
         let begun : At = record at { weights = at.weights + 4 } in
@@ -308,7 +297,7 @@ module _ (p : Planned) (Sees : Store → Small → Type 0) (fuel number : ℕ) (
         (same_goes p Sees fuel number t there again L spare (act.Drop j) go rest follows (with_state s begun) here' later (step at.state.frame here.standing.account.records known))
 
     -- drops one after another
-    pub drops_follow : (K : Claim) → ((j : ℕ) (f : Frame) (rs : ℕ → Option Record) → K f rs → K f (put j None rs)) → (js : List ℕ) (acts : List Act) (spare : ℕ) (go : Onward) (rest : Rest) → Going K spare (acts_run d again acts go) rest
+    pub drops_follow : (K : Known) → ((j : ℕ) (f : Frame) (rs : ℕ → Option Record) → K f rs → K f (put j None rs)) → (js : List ℕ) (acts : List Act) (spare : ℕ) (go : Onward) (rest : Rest) → Going K spare (acts_run d again acts go) rest
         → Going K (spare + 4 * length js) (acts_run d again (map act.Drop js ++ acts) go) (drop_all js rest)
     drops_follow K step [] acts spare go rest follows = let e0 : spare ≡ spare + 4 * 0 = omega arith in subst (λ n. Going K n (acts_run d again acts go) rest) e0 follows
     drops_follow K step (j ∷ js) acts spare go rest follows =
@@ -454,7 +443,7 @@ module _ (p : Planned) (Sees : Store → Small → Type 0) (fuel number : ℕ) (
             }) (subst (λ f. P f.mode f.outer f.begun) (sym frame) outer))))
 
     -- what needs less may have more to spare
-    spares : (K : Claim) (few many : ℕ) → few ≤ many → (go : Onward) (rest : Rest) → Going K few go rest → Going K many go rest
+    spares : (K : Known) (few many : ℕ) → few ≤ many → (go : Onward) (rest : Rest) → Going K few go rest → Going K many go rest
     spares K few many less go rest follows at here related known = follows at here (record {
       store = related.store;
       mode = related.mode;

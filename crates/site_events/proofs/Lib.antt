@@ -1,14 +1,15 @@
-pub mod Acts
-pub mod Attempts
-pub mod Blocks
-pub mod Bodies
-pub mod Boots
-pub mod Calls
-pub mod Cuts
-pub mod Places
-pub mod Records
-pub mod Runs
-pub mod States
-pub mod Stores
-pub mod Telling
-pub mod Traps
+mod Acts
+mod Attempts
+mod Blocks
+mod Bodies
+mod Boots
+mod Calls
+mod Cuts
+mod Places
+mod Records
+mod Runs
+mod SiteProofs
+mod States
+mod Stores
+mod Telling
+mod Traps
