@@ -1,6 +1,6 @@
 -- The acts of statements without sites, of conditions and of exits tell what the rules say, if what comes behind them does.
-use Rattle.std.proofs.Common.{◌≡◌, ◌∙◌, ℕ, zero, suc, ◌+◌, ◌*◌, ◌≤◌, Bool, true, false, cond, List, [], ◌∷◌, ◌++◌, length, map, Result, Ok, Err, refl, sym, ap, subst, arith}
-use Rattle.std.specs.Prelude.{Option, Some, None}
+use Rattle.std.proofs.Common.{◌≡◌, ◌∙◌, ℕ, zero, suc, ◌+◌, ◌*◌, ◌≤◌, Bool, true, false, cond, List, [], ◌∷◌, length, map, Result, Ok, Err, refl, sym, ap, subst, arith}
+use Rattle.std.specs.Prelude.{Some, None}
 use Rattle.std.specs.List.{AllByRecursion}
 use Rattle.task_ast.specs.declared.core_form.CoreExpr.{CoreExpr}
 use Rattle.task_ast.specs.declared.core_form.CoreStmt.{CoreStmt}
@@ -8,7 +8,6 @@ use Rattle.task_ast.specs.declared.core_form.CoreExit.{CoreExit, end_of-CoreExit
 use Rattle.task_ast.specs.declared.core_form.CoreExit.TheVariants as exit
 use Rattle.task_ast.specs.declared.core_form.CoreTask.{CoreTask}
 use Rattle.task_ast.specs.declared.core_form.Core.{Core}
-use Rattle.task_ast.specs.declared.core_form.Site.{Site}
 use Rattle.task_ast.specs.Pointing.{pointing, addresses}
 use Rattle.task_ast.specs.WellFormed.{Scope, IsCoreExit}
 use Rattle.io_depend.specs.Sets.{has}
@@ -23,7 +22,7 @@ use Rattle.walk_run.specs.PlainWrites.{Write, after_writes, plain_writes}
 use Rattle.walk_run.specs.PlainSteps.{plain_steps, condition_steps}
 use Rattle.walk_run.specs.WriteLaws.{plain_gives}
 use Rattle.devices.specs.Journal.{traps, commits}
-use Rattle.task_attempts.specs.State.{Record, Here, Rest}
+use Rattle.task_attempts.specs.State.{Here, Rest}
 use Rattle.task_attempts.specs.Changes.{with_store, spent}
 use Rattle.task_attempts.specs.Told.{unless_trap}
 use Rattle.task_attempts.specs.Values.{branch, from_ran, plain_log}

@@ -9,9 +9,8 @@ use Rattle.task_ast.specs.declared.core_form.Core.{Core}
 use Rattle.task_ast.specs.CoreSites.{room, all_numbers}
 use Rattle.task_ast.specs.Pointing.{pointing}
 use Rattle.task_ast.specs.WellFormed.{IsCoreTask, IsWellFormed, scope_of}
-use Rattle.region_split.specs.Regions.{is_nonvolatile, first, copies, regions}
+use Rattle.region_split.specs.Regions.{is_nonvolatile, first, regions}
 use Rattle.region_split.specs.Owners.{all_first}
-use Rattle.walk_run.specs.declared.place.Place.{Place}
 use Rattle.walk_run.specs.Store.{Store, unset, fresh}
 use Rattle.devices.specs.Journal.{begins}
 use Rattle.devices.specs.declared.world.World.{World}
@@ -196,7 +195,7 @@ module _ (c : Core) (world : World) (scheme : Scheme) (bare : BareLog (rules_of 
         let leave_log = exit_log t.exit (commit rest) in
         let leaves_so = exit_follows p (IsKept p) fuel number t there again rest follows K (scope_of c t) 1 t.exit well.exit nothing in
         let body_so = body_follows p (IsKept p) fuel number t there again bare none no_blocks t.body 1 false well.body 0 next (task_placed c.arrays t well.sites) (body_solid c t t.body 1 false [] well.body) (λ q x is. is)
-            (λ j x less is. is) (λ m o u b v same same' h. tt) leave_run leave_log leaves_so in
+        (λ j x less is. is) (λ m o u b v same same' h. tt) leave_run leave_log leaves_so in
         let begins_so = begins_go (body_log setting t.body leave_log) (acts_run d again (save_acts scheme 0) body_run) (saved_follows scheme body_run (body_log setting t.body leave_log) body_so) at here which stands few in
         subst (λ run. Goes p (IsKept p) (suc fuel) at.state.store here.standing (run at) (attempt_log setting rest here))
         (sym (run_joined d again (act.Begin number ∷ save_acts scheme 0 ++ body) leave nothing ∙ run_joined d again (act.Begin number ∷ save_acts scheme 0) body leave_run))

@@ -17,13 +17,13 @@ use Rattle.task_attempts.specs.Changes.{put, with_mode, with_record, spent}
 use Rattle.task_attempts.specs.Costs.{block_steps}
 use Rattle.task_attempts.specs.Along.{setting_of}
 use Rattle.task_attempts.specs.Told.{logged, drop_one, seal}
-use Rattle.task_attempts.specs.Calls.{annotation_of, annotation, site_at}
+use Rattle.task_attempts.specs.Calls.{annotation, site_at}
 use Rattle.task_attempts.specs.Blocks.{stamp_in, block_sealed, block_end, block_inside, block_log}
 use Rattle.task_attempts.specs.Boots.{task_of}
 use Rattle.run_plan.specs.declared.act.Act.{Act}
 use Rattle.run_plan.specs.declared.act.Act.TheVariants as act
 use Rattle.run_plan.specs.Cells.{Frame, State, puts_flag, puts_stamp, after_write}
-use Rattle.run_plan.specs.Small.{Doing, Done, does, silent, writing, have, same, sets_frame}
+use Rattle.run_plan.specs.Small.{Doing, Done, does, writing, have, same, sets_frame}
 use Rattle.run_plan.specs.Deeds.{stamp_held, sealed, seal_done, leaving}
 use Rattle.run_plan.specs.Weights.{seal_weight}
 use Rattle.run_plan.specs.PlanOf.{block_end_acts, block_acts}
@@ -85,17 +85,17 @@ module _ (p : Planned) (Sees : Store → Small → Type 0) (fuel number : ℕ) (
         let log = rest m inside here' in
         let other : (j : ℕ) → j ≤ most → (k == j) ≡ false = (λ j few. ne_eqb k j (λ same. omega (arith, is, few, same))) in
         let outer : P (Some m) f.outer f.begun = stable (Some m) at.state.frame.outer f.outer at.state.frame.begun f.begun
-            (λ j few. sym (put_other k j (Some m) at.state.frame.outer (other j few))) (λ j few. sym (put_other k j (Some time) at.state.frame.begun (other j few)))
-            (subst (λ o. P o at.state.frame.outer at.state.frame.begun) related.mode known.0) in
+        (λ j few. sym (put_other k j (Some m) at.state.frame.outer (other j few))) (λ j few. sym (put_other k j (Some time) at.state.frame.begun (other j few)))
+        (subst (λ o. P o at.state.frame.outer at.state.frame.begun) related.mode known.0) in
         let told = end_goes p Sees fuel (act.Enter k) change go begun at.state.store here.standing log related.stands
-            (λ seen. follows m inside (with_state (change at.state) begun) here' (record {
-              store = related.store;
-              mode = ap Some same_mode;
-              running = related.running;
-              stands = related.stands;
-              weights = (let few = related.weights in omega (arith, few));
-              within = related.within;
-            }) (ap Some same_mode, put_here k (Some m) at.state.frame.outer, put_here k (Some time) at.state.frame.begun, outer)) in
+        (λ seen. follows m inside (with_state (change at.state) begun) here' (record {
+          store = related.store;
+          mode = ap Some same_mode;
+          running = related.running;
+          stands = related.stands;
+          weights = (let few = related.weights in omega (arith, few));
+          within = related.within;
+        }) (ap Some same_mode, put_here k (Some m) at.state.frame.outer, put_here k (Some time) at.state.frame.begun, outer)) in
         let with_time = subst (λ (o : Option ℕ). Goes p Sees fuel at.state.store here.standing (deed c (act.Enter k) (have o (Entered at m)) (straight go) begun) log) (sym known.1) told in
         subst (λ (o : Option Mode). Goes p Sees fuel at.state.store here.standing (deed c (act.Enter k) (have o (λ m. have at.state.frame.time (Entered at m))) (straight go) begun) log) (sym related.mode) with_time
       where
@@ -133,9 +133,9 @@ module _ (p : Planned) (Sees : Store → Small → Type 0) (fuel number : ℕ) (
           within = related.within;
         } in
         let told = silent_goes p Sees fuel (act.Seal k) (puts_stamp k time) (small c (act.Seal k) (writing (puts_flag k s0.epoch) (seals k)) (act_end c (act.Seal k) same go)) begun here.standing _ stands1
-            (shown_goes p Sees fuel (act.Seal k) (Some (puts_flag k s0.epoch)) (seals k) (act_end c (act.Seal k) same go) (with_state s1 begun) here.standing (logged (seals k) None here') (rest here')
-            (record { event = refl; weights = (let few = related.weights in omega (arith, few)); committed = refl; stands = stands2; leads = tt })
-            (same_goes p Sees fuel number t there again (Beside P) spare (act.Seal k) go rest follows (with_state s2 begun) here' later known.0.0)) in
+        (shown_goes p Sees fuel (act.Seal k) (Some (puts_flag k s0.epoch)) (seals k) (act_end c (act.Seal k) same go) (with_state s1 begun) here.standing (logged (seals k) None here') (rest here')
+        (record { event = refl; weights = (let few = related.weights in omega (arith, few)); committed = refl; stands = stands2; leads = tt })
+        (same_goes p Sees fuel number t there again (Beside P) spare (act.Seal k) go rest follows (with_state s2 begun) here' later known.0.0)) in
         let log = seal k (of_block time) rest here in
         let with_time = subst (λ (o : Option ℕ). Goes p Sees fuel s0.store here.standing (deed c (act.Seal k) (have o (λ time. sealed k (puts_stamp k time ∷ puts_flag k s0.epoch ∷ []))) (straight go) begun) log) (sym known.0.1) told in
         subst (λ (o : Option Site). Goes p Sees fuel s0.store here.standing (deed c (act.Seal k) (seal_done o k s0) (straight go) (record at { weights = at.weights + seal_weight o })) log) (sym standing) with_time
@@ -206,7 +206,7 @@ module _ (p : Planned) (Sees : Store → Small → Type 0) (fuel number : ℕ) (
         let leaving_run = act_run d again leave go in
         let joined : acts_run d again (body ++ leave ∷ []) go ≡ acts_run d again body leaving_run = run_joined d again body (leave ∷ []) go in
         let enter_so = (λ (time : ℕ). enter_follows most is stable time 0 (acts_run d again body leaving_run) (λ outside inside. inner (block_end k time outside inside rest))
-            (λ outside inside. body_so outside inside time leaving_run (block_end k time outside inside rest) (leave_follows outside inside time go rest follows))) in
+        (λ outside inside. body_so outside inside time leaving_run (block_end k time outside inside rest) (leave_follows outside inside time go rest follows))) in
         let look_so = look_follows p Sees fuel number t there again P k (Beside P) IsLooked (0 + 40) (act_steps d (act.Enter k) (straight (acts_run d again body leaving_run))) (block_inside setting k inner rest) (λ time f rs h. (h, refl)) enter_so in
         let told = look_so at (spent block_steps here) (record {
           store = related.store;

@@ -1,28 +1,26 @@
 -- The acts of statements with calls and blocks tell what the rules say of them, if what comes behind does.
-use Rattle.std.proofs.Common.{◌≡◌, ◌∙◌, ℕ, zero, suc, ◌+◌, ◌<◌, ◌≤◌, Bool, true, false, ◌==◌, cond, List, [], ◌∷◌, ◌++◌, length, refl, sym, ap, subst, arith}
+use Rattle.std.proofs.Common.{◌≡◌, ◌∙◌, ℕ, ◌+◌, ◌<◌, ◌≤◌, Bool, true, ◌==◌, cond, List, [], ◌∷◌, ◌++◌, length, refl, sym, ap, subst, arith}
 use Rattle.std.specs.Prelude.{Option, Some, None}
 use Rattle.std.specs.List.{AllByRecursion}
 use Rattle.std.proofs.lemmas.Bool.{ne_eqb}
 use Rattle.std.proofs.lemmas.List.{length-append}
 use Rattle.task_ast.specs.declared.tree.Ann.{Ann}
-use Rattle.task_ast.specs.declared.core_form.CoreExpr.{CoreExpr}
 use Rattle.task_ast.specs.declared.core_form.CoreStmt.{CoreStmt, Row_of-CoreStmt, end_of-CoreStmt, more_of-CoreStmt}
 use Rattle.task_ast.specs.declared.core_form.CoreStmt.TheVariants as stmt
 use Rattle.task_ast.specs.declared.core_form.CoreTask.{CoreTask}
 use Rattle.task_ast.specs.declared.core_form.Core.{Core}
 use Rattle.task_ast.specs.declared.core_form.Site.{Site}
 use Rattle.task_ast.specs.declared.core_form.Site.TheVariants as site
-use Rattle.task_ast.specs.CoreSites.{Standing, a_call, a_block, a_copy, standing_of, site_numbers, row_numbers, all_numbers, standings, row_standings, all_standings}
-use Rattle.task_ast.specs.Pointing.{pointing, addresses, row_addresses, all_addresses, reading_arrays}
+use Rattle.task_ast.specs.CoreSites.{a_call, a_block, a_copy, site_numbers, row_numbers, all_numbers, standings, row_standings, all_standings}
+use Rattle.task_ast.specs.Pointing.{pointing, addresses, row_addresses, all_addresses}
 use Rattle.task_ast.specs.WellFormed.{IsCoreStmt, AreCoreStmts, scope_of}
 use Rattle.io_depend.specs.Sets.{has}
-use Rattle.region_split.specs.Regions.{Touch, may_write, touches, row_touches, all_touches, copies, regions}
+use Rattle.region_split.specs.Regions.{Touch, touches, row_touches, all_touches, copies}
 use Rattle.io_annot.specs.declared.choice.Mode.{Mode}
 use Rattle.walk_run.specs.Store.{Store}
-use Rattle.walk_run.specs.PlainWalks.{some_is_none}
 use Rattle.task_attempts.specs.State.{Rules, Setting, Here, Rest}
 use Rattle.task_attempts.specs.Along.{setting_of}
-use Rattle.task_attempts.specs.Values.{branch, plain_log}
+use Rattle.task_attempts.specs.Values.{plain_log}
 use Rattle.task_attempts.specs.Calls.{site_at}
 use Rattle.task_attempts.specs.Boots.{task_of}
 use Rattle.task_attempts.specs.Attempts.{statement_log, row_log, body_log}
@@ -32,7 +30,7 @@ use Rattle.run_plan.specs.Kinds.{standing_or_none, stands_at}
 use Rattle.run_plan.specs.Small.{Doing}
 use Rattle.run_plan.specs.Finding.{or_else, found_in, found_in_row, found_among, statement_of}
 use Rattle.run_plan.specs.PlanOf.{Around, around, unless_plain, statement_acts, row_acts, body_acts}
-use Rattle.run_plan.specs.Runs.{Small, At, Onward, Planned, doing, act_run, acts_run}
+use Rattle.run_plan.specs.Runs.{Small, Onward, Planned, doing, act_run, acts_run}
 use Rattle.run_plan.specs.RunRows.{run_joined}
 use Rattle.plan_laws.specs.PlacedSites.{Placed, placed_parts, same_long, row_long, Next, front_next, back_next, first_next, copies_at, region_there}
 use Rattle.plan_restore.proofs.Lists.{all_parts, is_itself, has_front, has_behind}
@@ -183,9 +181,9 @@ module _ (p : Planned) (Sees : Store → Small → Type 0) (fuel number : ℕ) (
         let front = front_next ks ls q next in
         let back = back_next ks ls q next in
         let yes_so = row_follows P yes_row _ _ w.2 q front parts.0 solid.0 (λ r x is. given r x (has_front (row_addresses r yes_row) (row_addresses r no_row) x is))
-            (found_front Has q (λ j. found_in_row j yes_row) (λ j. found_in_row j no_row) found) stable go rest follows in
+        (found_front Has q (λ j. found_in_row j yes_row) (λ j. found_in_row j no_row) found) stable go rest follows in
         let no_so = row_follows P no_row _ _ w.3 (q + length ks) back parts.1 solid.1 (λ r x is. given r x (has_behind (row_addresses r yes_row) (row_addresses r no_row) x is))
-            (found_back Has q (length ks) (λ j. found_in_row j yes_row) (λ j. found_in_row j no_row) (λ j less. row_beyond yes_row q front j less) found) (stable_more P q (length ks) stable) go rest follows in
+        (found_back Has q (length ks) (λ j. found_in_row j yes_row) (λ j. found_in_row j no_row) (λ j less. row_beyond yes_row q front j less) found) (stable_more P q (length ks) stable) go rest follows in
         or_plain P (ks ++ ls) (stmt.If' e m yes_row n no_row) (act.Test e (row_acts a yes_row) (row_acts a no_row)) go _
         (λ no_sites. bare_follows P (stmt.If' e m yes_row n no_row) no_sites all given go rest follows)
         (test_follows p Sees fuel number t there again (Beside P) 0 e (row_acts a yes_row) (row_acts a no_row) go (row_log setting yes_row rest) (row_log setting no_row rest) yes_so no_so)
@@ -214,7 +212,7 @@ module _ (p : Planned) (Sees : Store → Small → Type 0) (fuel number : ℕ) (
         let front = front_next ks ls q next in
         let back = back_next ks ls q next in
         let behind = row_follows P rows level branched w.1 (q + length ks) back parts.1 solid.1 (λ r x is. given r x (has_behind (addresses r s) (row_addresses r rows) x is))
-            (found_back Has q (length ks) (λ j. found_in j s) (λ j. found_in_row j rows) (λ j less. beyond s q front j less) found) (stable_more P q (length ks) stable) go rest follows in
+        (found_back Has q (length ks) (λ j. found_in j s) (λ j. found_in_row j rows) (λ j less. beyond s q front j less) found) (stable_more P q (length ks) stable) go rest follows in
         subst (λ (f : Onward). Going P f (row_log setting (more_of-CoreStmt s rows) rest)) (sym (run_joined d again (statement_acts a s) (row_acts a rows) go))
         (stmt_follows P s level branched w.0 q front parts.0 solid.0 (λ r x is. given r x (has_front (addresses r s) (row_addresses r rows) x is)) (found_front Has q (λ j. found_in j s) (λ j. found_in_row j rows) found) stable
         (acts_run d again (row_acts a rows) go) (row_log setting rows rest) behind)
@@ -231,7 +229,7 @@ module _ (p : Planned) (Sees : Store → Small → Type 0) (fuel number : ℕ) (
       let front = front_next ks ls q next in
       let back = back_next ks ls q next in
       let behind = body_follows P body level branched w.1 (q + length ks) back parts.1 solid.1 (λ r x is. given r x (has_behind (addresses r s) (all_addresses r body) x is))
-          (found_back Has q (length ks) (λ j. found_in j s) (λ j. found_among j body) (λ j less. beyond s q front j less) found) (stable_more P q (length ks) stable) go rest follows in
+      (found_back Has q (length ks) (λ j. found_in j s) (λ j. found_among j body) (λ j less. beyond s q front j less) found) (stable_more P q (length ks) stable) go rest follows in
       subst (λ (f : Onward). Going P f (body_log setting (s ∷ body) rest)) (sym (run_joined d again (statement_acts a s) (body_acts a body) go))
       (stmt_follows P s level branched w.0 q front parts.0 solid.0 (λ r x is. given r x (has_front (addresses r s) (all_addresses r body) x is)) (found_front Has q (λ j. found_in j s) (λ j. found_among j body) found) stable
       (acts_run d again (body_acts a body) go) (body_log setting body rest) behind)

@@ -1,7 +1,7 @@
 -- A boot of the plan of a program with calls and blocks tells what the rules say, wherever it is cut.
 use Rattle.std.proofs.Common.{◌≡◌, ◌∙◌, ℕ, zero, suc, ◌+◌, ◌*◌, ◌≤◌, Bool, true, false, cond, nat_lt, List, [], ◌∷◌, length, map, take, slice_get, slice_index_or, refl, sym, ap, subst, arith}
 use Rattle.std.specs.Prelude.{Option, Some, None, min, sum_by}
-use Rattle.std.specs.List.{AllByRecursion, range_with_len}
+use Rattle.std.specs.List.{range_with_len}
 use Rattle.task_ast.specs.declared.core_form.CoreTask.{CoreTask}
 use Rattle.task_ast.specs.declared.core_form.Core.{Core}
 use Rattle.task_ast.specs.CoreSites.{room}
@@ -22,7 +22,7 @@ use Rattle.run_plan.specs.Words.{first_places, restore_writes}
 use Rattle.run_plan.specs.Weights.{region_words, weight}
 use Rattle.run_plan.specs.Safe.{all_written}
 use Rattle.run_plan.specs.PlanOf.{most_regions, restore_acts}
-use Rattle.run_plan.specs.Runs.{Small, Smalls, At, Onward, Planned, with_state, doing, act_end, act_steps, straight, if_there, nothing, acts_run, attempts, restoring_if_there, booted, boot_run}
+use Rattle.run_plan.specs.Runs.{Smalls, At, Onward, Planned, with_state, doing, act_end, act_steps, straight, if_there, nothing, acts_run, attempts, restoring_if_there, booted, boot_run}
 use Rattle.plan_restore.specs.Kept.{planned, IsKept, AreKept}
 use Rattle.site_events.specs.Records.{view}
 use Rattle.site_events.specs.Standing.{StandsAt}

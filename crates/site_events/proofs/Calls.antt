@@ -1,5 +1,5 @@
 -- The acts of a call tell what the rules say of it, each act by a lemma of its own.
-use Rattle.std.proofs.Common.{◌≡◌, ◌∙◌, ℕ, zero, suc, ◌+◌, ◌*◌, ◌≤◌, Bool, true, false, cond, List, [], ◌∷◌, ◌++◌, length, map, drop, Result, Ok, Err, refl, sym, ap, subst, arith}
+use Rattle.std.proofs.Common.{◌≡◌, ◌∙◌, ℕ, suc, ◌+◌, ◌*◌, ◌≤◌, Bool, true, false, cond, List, [], ◌∷◌, ◌++◌, length, map, drop, Result, Ok, Err, refl, sym, ap, subst, arith}
 use Rattle.std.specs.Prelude.{Option, Some, None, if◌then◌else◌}
 use Rattle.std.specs.List.{AllByRecursion}
 use Rattle.std.proofs.Math.Path.{fun_ext}
@@ -19,7 +19,7 @@ use Rattle.io_annot.specs.declared.choice.Mode.{Mode}
 use Rattle.io_annot.specs.declared.choice.Mode.TheVariants as mode
 use Rattle.io_annot.specs.declared.choice.Choice.{Choice}
 use Rattle.io_annot.specs.declared.choice.Choice.TheVariants.{Keep, Issue}
-use Rattle.io_annot.specs.Choice.{is_expired, own_choice, choice}
+use Rattle.io_annot.specs.Choice.{is_expired, choice}
 use Rattle.io_depend.specs.Depend.{dependents}
 use Rattle.region_split.specs.Regions.{may_write}
 use Rattle.walk_run.specs.declared.trap.Trap.{Trap}
@@ -30,7 +30,7 @@ use Rattle.walk_run.specs.PlainWrites.{sets}
 use Rattle.walk_run.specs.PlainSteps.{expr_steps, target_steps, found_steps}
 use Rattle.devices.specs.Reading.{reading_in}
 use Rattle.devices.specs.Journal.{looks, keeps, drops, issues, seals}
-use Rattle.task_attempts.specs.State.{Setting, Record, of_reading, of_block, of_copy, Here, Followed, Logged, Rest}
+use Rattle.task_attempts.specs.State.{Setting, Record, of_reading, of_block, of_copy, Here, Followed, Rest}
 use Rattle.task_attempts.specs.Changes.{put, with_steps, with_store, with_record, with_looks, with_issue, spent}
 use Rattle.task_attempts.specs.Costs.{call_steps}
 use Rattle.task_attempts.specs.Along.{setting_of}
@@ -42,20 +42,20 @@ use Rattle.task_attempts.specs.Boots.{task_of}
 use Rattle.run_plan.specs.declared.act.Act.{Act}
 use Rattle.run_plan.specs.declared.act.Act.TheVariants as act
 use Rattle.run_plan.specs.Cells.{Frame, State, puts_flag, puts_value, puts_stamp, after_write}
-use Rattle.run_plan.specs.Small.{Doing, Done, does, ahead, first_way, second_way, silent, showing, writing, have, unless_fails, same, one, sets_frame, with_volatile, after_event, flag_holds}
-use Rattle.run_plan.specs.Deeds.{target_found, all_values, value_done, reading_held, by_choice, choose_done, issue_done, sealed, seal_done, look_done, take_done, words_put, write_done}
+use Rattle.run_plan.specs.Small.{Doing, Done, does, ahead, silent, showing, writing, have, unless_fails, same, sets_frame, with_volatile, after_event}
+use Rattle.run_plan.specs.Deeds.{target_found, all_values, value_done, reading_held, by_choice, choose_done, issue_done, sealed, seal_done, words_put, write_done}
 use Rattle.run_plan.specs.Words.{home_writes}
 use Rattle.run_plan.specs.Weights.{values_steps, target_weight, value_weight, choose_weight, seal_weight}
 use Rattle.run_plan.specs.Finding.{statement_of}
 use Rattle.run_plan.specs.Safe.{all_written}
 use Rattle.run_plan.specs.PlanOf.{Around, around, issue_acts, call_acts}
-use Rattle.run_plan.specs.Runs.{Small, At, Onward, Planned, with_state, doing, small, small_steps, act_end, deed, act_steps, straight, by_way, act_run, acts_run}
+use Rattle.run_plan.specs.Runs.{Small, At, Onward, Planned, with_state, doing, small, act_end, deed, act_steps, straight, by_way, act_run, acts_run}
 use Rattle.run_plan.specs.RunRows.{run_choose}
 use Rattle.plan_restore.proofs.Puts.{NotConst}
 use Rattle.plan_restore.proofs.Writing.{TouchMay, touched_may, target_array, as_found, ok_is}
 use Rattle.site_events.specs.Records.{View, view, holds, HasReading, Says, IsRecord, kept_from}
 use Rattle.site_events.specs.Standing.{sites_of, StandsAt}
-use Rattle.site_events.specs.Follows.{PointsWithin, Outer, Beside, Known, Related, Follows, Goes}
+use Rattle.site_events.specs.Follows.{PointsWithin, Outer, Beside, Known, Goes}
 use Rattle.site_events.proofs.Records.{put_here, put_all}
 use Rattle.site_events.proofs.Places.{value_stands, stamp_stands, drop_stands, seal_stands, look_stands, issue_stands, homes_unseen, all_view, all_frame, all_stand}
 use Rattle.site_events.proofs.Stores.{writes_leave}
@@ -321,16 +321,16 @@ module _ (p : Planned) (Sees : Store → Small → Type 0) (fuel number : ℕ) (
         let change : State → State = λ after. record after { frame = record at.state.frame { word = Some word' } } in
         let stands = issue_stands c at.state here related.stands n in
         let told = shown_goes p Sees fuel (act.Issue k) None (issues k n words word') (act_end c (act.Issue k) change go) begun here.standing (logged (issues k n words word) None here') (rest word here')
-            (record { event = ap (issues k n words) same_word; weights = (let few = related.weights in omega (arith, few)); committed = refl; stands = stands; leads = tt })
-            (end_goes p Sees fuel (act.Issue k) change go (with_state s begun) s.store here'.standing (rest word here') stands
-            (λ seen. follows word (with_state (change s) begun) here' (record {
-              store = related.store;
-              mode = related.mode;
-              running = related.running;
-              stands = stands;
-              weights = (let few = related.weights in omega (arith, few));
-              within = related.within;
-            }) (known.0.0, known.0.1, known.0.3, ap Some same_word, known.1))) in
+        (record { event = ap (issues k n words) same_word; weights = (let few = related.weights in omega (arith, few)); committed = refl; stands = stands; leads = tt })
+        (end_goes p Sees fuel (act.Issue k) change go (with_state s begun) s.store here'.standing (rest word here') stands
+        (λ seen. follows word (with_state (change s) begun) here' (record {
+          store = related.store;
+          mode = related.mode;
+          running = related.running;
+          stands = stands;
+          weights = (let few = related.weights in omega (arith, few));
+          within = related.within;
+        }) (known.0.0, known.0.1, known.0.3, ap Some same_word, known.1))) in
         let with_words = subst (λ (o : Option (List ℕ)). Goes p Sees fuel at.state.store here.standing (deed c (act.Issue k) (have o (Issues n at)) (straight go) begun) (issue setting k n words rest here)) (sym known.0.2) told in
         subst (λ (o : Option CoreStmt). Goes p Sees fuel at.state.store here.standing (deed c (act.Issue k) (issue_done setting o k at.state) (straight go) begun) (issue setting k n words rest here)) (sym found) with_words
       where
@@ -365,10 +365,10 @@ module _ (p : Planned) (Sees : Store → Small → Type 0) (fuel number : ℕ) (
           within = related.within;
         } in
         let told = silent_goes p Sees fuel (act.Seal k) (puts_value k word) (small c (act.Seal k) (silent (puts_stamp k time)) (small c (act.Seal k) (writing (puts_flag k s0.epoch) (seals k)) (act_end c (act.Seal k) same go))) begun here.standing _ stands1
-            (silent_goes p Sees fuel (act.Seal k) (puts_stamp k time) (small c (act.Seal k) (writing (puts_flag k s0.epoch) (seals k)) (act_end c (act.Seal k) same go)) (with_state s1 begun) here.standing _ stands2
-            (shown_goes p Sees fuel (act.Seal k) (Some (puts_flag k s0.epoch)) (seals k) (act_end c (act.Seal k) same go) (with_state s2 begun) here.standing (logged (seals k) None here') (rest here')
-            (record { event = refl; weights = (let few = related.weights in omega (arith, few)); committed = refl; stands = stands3; leads = tt })
-            (same_goes p Sees fuel number t there again (λ f rs. P f.mode f.outer f.begun × (f.target ≡ Some at_place) × (f.word ≡ Some word)) spare (act.Seal k) go rest follows (with_state s3 begun) here' later (known.0, known.1, known.3)))) in
+        (silent_goes p Sees fuel (act.Seal k) (puts_stamp k time) (small c (act.Seal k) (writing (puts_flag k s0.epoch) (seals k)) (act_end c (act.Seal k) same go)) (with_state s1 begun) here.standing _ stands2
+        (shown_goes p Sees fuel (act.Seal k) (Some (puts_flag k s0.epoch)) (seals k) (act_end c (act.Seal k) same go) (with_state s2 begun) here.standing (logged (seals k) None here') (rest here')
+        (record { event = refl; weights = (let few = related.weights in omega (arith, few)); committed = refl; stands = stands3; leads = tt })
+        (same_goes p Sees fuel number t there again (λ f rs. P f.mode f.outer f.begun × (f.target ≡ Some at_place) × (f.word ≡ Some word)) spare (act.Seal k) go rest follows (with_state s3 begun) here' later (known.0, known.1, known.3)))) in
         let log = seal k (of_reading word time words) rest here in
         let with_time = subst (λ (o : Option ℕ). Goes p Sees fuel s0.store here.standing (deed c (act.Seal k) (have o (Sealed s0 word)) (straight go) begun) log) (sym known.2) told in
         let with_word = subst (λ (o : Option ℕ). Goes p Sees fuel s0.store here.standing (deed c (act.Seal k) (have o (λ w. have s0.frame.time (Sealed s0 w))) (straight go) begun) log) (sym known.3) with_time in
@@ -387,7 +387,7 @@ module _ (p : Planned) (Sees : Store → Small → Type 0) (fuel number : ℕ) (
         let place : site_at (sites_of c at.state.task) k ≡ Some (site.Io ann) = ap (λ sites. site_at sites k) (sites_are p Sees fuel number t there again (spare + 6) at here related) ∙ standing in
         let start = kept_from (sites_of c at.state.task) k in
         let reading : HasReading (view at.state) k word known.2.0 =
-            (subst (λ o. IsRecord (view at.state) start k (Some (of_reading word known.2.0 known.2.1.0)) o) place (subst (λ r. IsRecord (view at.state) start k r (site_at (sites_of c at.state.task) k)) known.2.1.1 (related.stands.records k))).1 in
+        (subst (λ o. IsRecord (view at.state) start k (Some (of_reading word known.2.0 known.2.1.0)) o) place (subst (λ r. IsRecord (view at.state) start k r (site_at (sites_of c at.state.task) k)) known.2.1.1 (related.stands.records k))).1 in
         let same_word : word' ≡ word = reading.value in
         let change : State → State = λ after. record after { frame = record at.state.frame { word = Some word' } } in
         shown_goes p Sees fuel (act.Take k) None (keeps k word') (act_end c (act.Take k) change go) begun here.standing (logged (keeps k word) followed here) (rest here)
@@ -510,7 +510,7 @@ module _ (p : Planned) (Sees : Store → Small → Type 0) (fuel number : ℕ) (
         let stays : (j : ℕ) (f : Frame) (rs : ℕ → Option Record) → IsDropped at_place words time f rs → IsDropped at_place words time f (put j None rs) = (λ j f rs h. (h.0, put_all (λ i o. i ≡ k → o ≡ None) j None rs (λ is. refl) (λ i apart is. ap rs is ∙ h.1) k refl)) in
         let drops_so = drops_follow (IsDropped at_place words time) stays js (act.Issue k ∷ act.Seal k ∷ []) (6 + 8 + 12) go (issue setting k (number_of setting q) words (λ word. seal k (of_reading word time words) (rest word))) issues_so in
         let own = drop_follows (IsLooked at_place words time) (IsDropped at_place words time) k (6 + 8 + 12 + 4 * length js) (acts_run d again (map act.Drop js ++ act.Issue k ∷ act.Seal k ∷ []) go)
-            (drop_all js (issue setting k (number_of setting q) words (λ word. seal k (of_reading word time words) (rest word)))) (λ f rs h. (h, put_here k None rs)) drops_so in
+        (drop_all js (issue setting k (number_of setting q) words (λ word. seal k (of_reading word time words) (rest word)))) (λ f rs h. (h, put_here k None rs)) drops_so in
         let e0 : 6 + 8 + 12 + 4 * length js + 4 ≡ 30 + 4 * length js = omega arith in
         subst (λ n. Going (IsLooked at_place words time) n (acts_run d again (issue_acts a k) go) (issue_anew setting k (number_of setting q) words time rest)) e0 own
 
@@ -526,12 +526,12 @@ module _ (p : Planned) (Sees : Store → Small → Type 0) (fuel number : ℕ) (
         let write_so = (λ (at_place : Option Place) (may : MayPut c at_place) (word : ℕ). write_follows at_place word 0 go rest may follows) in
         let issues_so = (λ (at_place : Option Place) (may : MayPut c at_place) (words : List ℕ) (time : ℕ). issuing_follows ann target q args at_place words time writes (behind at_place) standing found (write_so at_place may)) in
         let keeps_so = (λ (at_place : Option Place) (may : MayPut c at_place) (words : List ℕ) (time word : ℕ) (followed : Option Followed).
-            spares (IsKept at_place word) (0 + 6 + 6) (30 + 4 * js) (omega arith) (acts_run d again (act.Take k ∷ []) writes) (λ here. logged (keeps k word) followed here ∷ behind at_place word here)
-            (take_follows at_place word (0 + 6) followed writes (behind at_place word) (write_so at_place may word) ann standing)) in
+        spares (IsKept at_place word) (0 + 6 + 6) (30 + 4 * js) (omega arith) (acts_run d again (act.Take k ∷ []) writes) (λ here. logged (keeps k word) followed here ∷ behind at_place word here)
+        (take_follows at_place word (0 + 6) followed writes (behind at_place word) (write_so at_place may word) ann standing)) in
         let choose_so = (λ (at_place : Option Place) (may : MayPut c at_place) (words : List ℕ) (time : ℕ).
-            choose_follows ann n at_place words time (30 + 4 * js) (issue_acts a k) (act.Take k ∷ []) writes (behind at_place) standing (issues_so at_place may words time) (keeps_so at_place may words time)) in
+        choose_follows ann n at_place words time (30 + 4 * js) (issue_acts a k) (act.Take k ∷ []) writes (behind at_place) standing (issues_so at_place may words time) (keeps_so at_place may words time)) in
         let look_so = (λ (at_place : Option Place) (may : MayPut c at_place) (words : List ℕ). look_follows (IsValued at_place words) (IsLooked at_place words) (30 + 4 * js + 30) (act_run d again (act.Choose k (issue_acts a k) (act.Take k ∷ [])) writes)
-            (call_inside setting k n at_place words rest) (λ time f rs h. (h.0, h.1, h.2, refl)) (choose_so at_place may words)) in
+        (call_inside setting k n at_place words rest) (λ time f rs h. (h.0, h.1, h.2, refl)) (choose_so at_place may words)) in
         value_follows target q args (30 + 4 * js + 30 + 6) (acts_run d again (act.Look k ∷ act.Choose k (issue_acts a k) (act.Take k ∷ []) ∷ act.Write k ∷ []) go)
         (λ at_place words. look k (call_inside setting k n at_place words rest)) found all look_so at (spent (call_steps t k) here) (record {
           store = related.store;

@@ -1,10 +1,10 @@
 -- What small steps that tell the first of a log show: its first events, each within its steps, and where the plan stands at
 -- their end; and that they go on.
 use Rattle.std.proofs.Common.{◌≡◌, ◌∙◌, ◌⊎◌, inl, inr, ℕ, zero, suc, ◌≤◌, List, [], ◌∷◌, length, map, take, refl, sym, ap, subst, arith}
-use Rattle.std.specs.Prelude.{⊤, Option, Some, None}
+use Rattle.std.specs.Prelude.{Option, Some, None}
 use Rattle.walk_run.specs.Store.{Store}
 use Rattle.devices.specs.Journal.{JournalEvent}
-use Rattle.task_attempts.specs.State.{Standing, Logged, Log}
+use Rattle.task_attempts.specs.State.{Standing, Log}
 use Rattle.task_attempts.specs.Laws.{EndsWith}
 use Rattle.task_attempts.specs.Boots
 use Rattle.task_attempts.specs.Boots.{events_in}

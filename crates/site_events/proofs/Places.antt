@@ -1,14 +1,12 @@
 -- Where a plan stands, with the rules, behind each kind of write and event.
-use Rattle.std.proofs.Common.{◌≡◌, ◌∙◌, ℕ, zero, suc, ◌+◌, ◌≤◌, Bool, true, false, ◌==◌, List, [], ◌∷◌, length, map, drop, refl, sym, ap, subst, arith}
-use Rattle.std.specs.Prelude.{Option, Some, None}
+use Rattle.std.proofs.Common.{◌≡◌, ◌∙◌, ℕ, ◌+◌, ◌≤◌, Bool, true, false, ◌==◌, List, [], ◌∷◌, length, drop, refl, sym, ap, subst, arith}
+use Rattle.std.specs.Prelude.{Some, None}
 use Rattle.std.specs.List.{AllByRecursion}
-use Rattle.std.proofs.lemmas.Bool.{ne_eqb}
 use Rattle.task_ast.specs.declared.tree.Kind.{Kind}
 use Rattle.task_ast.specs.declared.tree.Kind.TheVariants.{Nv, Const, Vol}
-use Rattle.task_ast.specs.declared.core_form.Array.{Array}
 use Rattle.task_ast.specs.declared.core_form.Core.{Core}
 use Rattle.walk_run.specs.declared.place.Place.{Place}
-use Rattle.walk_run.specs.Store.{Store, first_if_shown}
+use Rattle.walk_run.specs.Store.{first_if_shown}
 use Rattle.walk_run.specs.PlainWrites.{Write, sets, points}
 use Rattle.task_attempts.specs.State.{Record, Standing, Here}
 use Rattle.task_attempts.specs.Changes.{put, with_record, with_looks, with_issue}

@@ -1,8 +1,8 @@
 -- Each write of a record's cells keeps the records: behind a drop and before the flag of a seal the rules have none, and
 -- behind the flag they have the new one.
-use Rattle.std.proofs.Common.{◌≡◌, ◌∙◌, ℕ, zero, suc, ◌+◌, ◌≤◌, Bool, true, false, ◌==◌, cond, List, refl, sym, ap, subst, arith, eqb-true}
+use Rattle.std.proofs.Common.{◌≡◌, ◌∙◌, ℕ, ◌+◌, ◌≤◌, Bool, true, false, ◌==◌, cond, List, refl, sym, ap, subst, arith, eqb-true}
 use Rattle.std.specs.Prelude.{Option, Some, None}
-use Rattle.std.proofs.lemmas.Bool.{ne_eqb, eqb-false}
+use Rattle.std.proofs.lemmas.Bool.{ne_eqb}
 use Rattle.task_ast.specs.declared.core_form.Site.{Site}
 use Rattle.task_ast.specs.declared.core_form.Site.TheVariants as site
 use Rattle.region_split.specs.declared.class.DmaClass.{DmaClass}
@@ -12,7 +12,7 @@ use Rattle.task_attempts.specs.Changes.{put}
 use Rattle.task_attempts.specs.Calls.{site_at}
 use Rattle.run_plan.specs.Words.{kept_words}
 use Rattle.plan_restore.proofs.Lists.{is_itself}
-use Rattle.site_events.specs.Records.{View, HasReading, HasCopy, holds, Says, IsRecord, kept_from, AreRecords}
+use Rattle.site_events.specs.Records.{View, holds, Says, IsRecord, kept_from, AreRecords}
 
 -- ---- functions with another value at one number
 

@@ -1,6 +1,6 @@
 -- The boots of the plan of a program with calls and blocks, one behind another: each tells what the rules say, from where
 -- the one before left it.
-use Rattle.std.proofs.Common.{◌≡◌, ◌∙◌, ℕ, zero, suc, ◌+◌, ◌≤◌, List, [], ◌∷◌, ◌++◌, length, map, take, refl, sym, ap, subst, arith}
+use Rattle.std.proofs.Common.{◌≡◌, ◌∙◌, ℕ, suc, ◌+◌, ◌≤◌, List, [], ◌∷◌, ◌++◌, length, map, take, refl, sym, ap, subst, arith}
 use Rattle.std.specs.Prelude.{⊤, flat_map}
 use Rattle.std.proofs.lemmas.Bool.{ne_eqb}
 use Rattle.task_ast.specs.declared.core_form.Core.{Core}
@@ -17,7 +17,7 @@ use Rattle.attempt_laws.specs.Runs.{states_in, all_states}
 use Rattle.run_plan.specs.Cells.{State, failed}
 use Rattle.run_plan.specs.Runs.{Planned, after, boot_run, cut_run, left_by, boots_run, started, plan_run, shown_events, event_weights, commit_states}
 use Rattle.run_plan.specs.Sound.{shown, counts, AllWithin, Within, TrapsAreWalked, GoesOn}
-use Rattle.plan_restore.specs.Kept.{planned, AreKept, IsLeft, BootsKeep, committed_after}
+use Rattle.plan_restore.specs.Kept.{planned, AreKept, IsLeft, BootsKeep}
 use Rattle.site_events.specs.Records.{view}
 use Rattle.site_events.specs.Standing.{StandsAt}
 use Rattle.site_events.specs.Telling.{Tells}

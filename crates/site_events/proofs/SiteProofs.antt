@@ -1,5 +1,5 @@
 -- What is claimed of the acts of sites holds.
-use Rattle.std.proofs.Common.{◌≡◌, ◌∙◌, ℕ, ◌+◌, ◌≤◌, Bool, true, false, ◌==◌, List, [], ◌∷◌, ◌++◌, map, refl, sym, subst}
+use Rattle.std.proofs.Common.{◌≡◌, ◌∙◌, ℕ, ◌+◌, ◌≤◌, Bool, true, false, ◌==◌, List, [], ◌∷◌, refl, sym, subst}
 use Rattle.std.specs.Prelude.{Option, Some, None}
 use Rattle.std.specs.List.{AllByRecursion}
 use Rattle.task_ast.specs.declared.core_form.CoreStmt.TheVariants as stmt
@@ -16,7 +16,7 @@ use Rattle.plan_restore.proofs.Lists.{all_parts}
 use Rattle.plan_restore.proofs.Puts.{NotConst}
 use Rattle.plan_restore.proofs.Solid.{body_solid}
 use Rattle.plan_restore.proofs.Writing.{TouchMay}
-use Rattle.site_events.specs.Records.{View, view, Says, kept_from, AreRecords}
+use Rattle.site_events.specs.Records.{view, Says, kept_from, AreRecords}
 use Rattle.site_events.specs.Standing.{IsNumbered}
 use Rattle.site_events.specs.SiteLaws.{IsCellOf, Anything, Noted, AreNoted, CallsDo, BlocksDo}
 use Rattle.site_events.specs.Follows.{Stable}

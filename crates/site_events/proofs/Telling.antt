@@ -1,6 +1,6 @@
 -- Small steps of acts tell a log, if what comes behind them does.
-use Rattle.std.proofs.Common.{◌≡◌, ◌∙◌, ◌⊎◌, inl, inr, ℕ, zero, suc, ◌+◌, ◌≤◌, List, [], ◌∷◌, ◌++◌, map, take, refl, sym, ap, subst, arith}
-use Rattle.std.specs.Prelude.{Option, Some, None}
+use Rattle.std.proofs.Common.{◌≡◌, inl, inr, ℕ, zero, suc, ◌≤◌, List, [], ◌∷◌, ◌++◌, map, take, refl, subst, arith}
+use Rattle.std.specs.Prelude.{Option, Some}
 use Rattle.walk_run.specs.declared.trap.Trap.{Trap}
 use Rattle.walk_run.specs.Trap.{code_of}
 use Rattle.walk_run.specs.Store.{Store}
@@ -15,8 +15,8 @@ use Rattle.run_plan.specs.Safe.{all_written}
 use Rattle.plan_restore.specs.Kept.{committed_by}
 use Rattle.site_events.specs.Records.{view}
 use Rattle.site_events.specs.Standing.{StandsAt}
-use Rattle.site_events.specs.Telling.{Meets, Tells}
-use Rattle.site_events.specs.Follows.{AreSeen, Told, Goes}
+use Rattle.site_events.specs.Telling.{Meets}
+use Rattle.site_events.specs.Follows.{AreSeen, Goes}
 
 module _ (p : Planned) (Sees : Store → Small → Type 0) (fuel : ℕ) where
   -- what is told up to a number of small steps

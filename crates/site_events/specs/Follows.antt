@@ -1,5 +1,5 @@
 -- What acts do from a place of an attempt on, against what the rules say from there on.
-use Rattle.std.specs.Prelude.{◌≡◌, ℕ, ◌+◌, ◌≤◌, ⊤, true, List, [], ◌∷◌, take, Option, Some}
+use Rattle.std.specs.Prelude.{◌≡◌, ℕ, ◌+◌, ◌≤◌, ⊤, true, [], ◌∷◌, take, Option, Some}
 use Rattle.task_ast.specs.declared.core_form.CoreTask.{CoreTask}
 use Rattle.task_ast.specs.Pointing.{Pointing, pointing}
 use Rattle.io_annot.specs.declared.choice.Mode.{Mode}

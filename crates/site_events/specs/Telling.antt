@@ -1,6 +1,6 @@
 -- Small steps against the log of the rules: each event is the next of the log, within its steps; behind each small step,
 -- with an event or without, the plan stands where the rules do behind the events so far; and the run goes on.
-use Rattle.std.specs.Prelude.{◌≡◌, ◌⊎◌, ⊤, ℕ, zero, suc, ◌≤◌, List, [], ◌∷◌, Option, Some, None}
+use Rattle.std.specs.Prelude.{◌≡◌, ◌⊎◌, ⊤, ℕ, zero, suc, ◌≤◌, [], ◌∷◌, Option, Some, None}
 use Rattle.walk_run.specs.Store.{Store}
 use Rattle.devices.specs.Journal.{JournalEvent, commits}
 use Rattle.task_attempts.specs.State.{Standing, Logged, Log}
