@@ -1,0 +1,15 @@
+mod Acts
+mod Attempts
+mod Blocks
+mod Bodies
+mod Boots
+mod Calls
+mod Cuts
+mod Places
+mod Records
+mod Runs
+mod SiteProofs
+mod States
+mod Stores
+mod Telling
+mod Traps
