@@ -1,7 +1,7 @@
 //! What RAM and the constants have of a plan's state, as the contracts of functions that do nothing (docs/CODE.md, "What is
 //! proved").
 ghost use Rattle.std.specs.Prelude.{◌≡◌, ◌+◌, ◌≤◌, ◌<◌, ℕ, length};
-ghost use Rattle.cell_laws.specs.Standing.{Fits, HasHomes, address_of, word_of, worked};
+ghost use Rattle.cell_laws.specs.Standing.{Fits, HasHomes, Stands, address_of, word_of, worked};
 ghost use Rattle.fram_ram.specs.Memories.{put};
 ghost use Rattle.layout_laws.specs.Layouts.{layout_of};
 ghost use Rattle.line_laws.specs.Relation.{Related};
@@ -56,4 +56,20 @@ pub fn memory_is_related()
         → Related (layout_of c bank) (length c.pointers) m store }
 {
     no_place_is_a_cell_of_the_code();
+}
+
+/// Words outside FRAM belong to no cell that outlives a power failure.
+pub fn words_of_ram_leave_cells()
+    ensures { (c : Core) (scheme : Scheme) (t : CoreTask) (m n : ℕ → ℕ) (s : State) → IsWellFormed c → Stands c scheme t m s → ((a : ℕ) → a < 65536 → n a ≡ m a)
+        → Stands c scheme t n s }
+{
+    each_place_lies_in_its_area();
+}
+
+/// And to no constant.
+pub fn words_of_ram_leave_constants()
+    ensures { (c : Core) (m n : ℕ → ℕ) (store : Store) → IsWellFormed c → HasConstants c m store → ((a : ℕ) → a < 65536 → n a ≡ m a)
+        → HasConstants c n store }
+{
+    each_place_lies_in_its_area();
 }
