@@ -1,0 +1,8 @@
+//! Laws on acts: the code of each act does on the machine what the plan's act does, cut anywhere.
+#![tactic(auto)]
+
+mod laws;
+mod memory;
+
+pub use laws::{a_lock_is_set_as_planned, a_look_is_as_planned, a_record_is_dropped_as_planned};
+pub use memory::{a_note_keeps_memory, a_write_keeps_memory};
