@@ -1,3 +1,6 @@
+pub mod Choices
+pub mod Commits
 pub mod Going
 pub mod Keeping
+pub mod Records
 pub mod Simple

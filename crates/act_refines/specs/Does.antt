@@ -1,5 +1,5 @@
 -- What it means that an act's code does its act.
-use Rattle.std.specs.Prelude.{List, ◌≡◌, ℕ, ◌+◌, ◌%◌, ◌^◌, ◌≤◌, ⊤, Bool, true, false, length}
+use Rattle.std.specs.Prelude.{List, ◌≡◌, ◌≢◌, ℕ, ◌+◌, ◌%◌, ◌^◌, ◌<◌, ◌≤◌, ⊤, Some, Bool, true, false, length}
 use Rattle.devices.specs.Journal.{Place}
 use Rattle.task_ast.specs.declared.core_form.CoreTask.{CoreTask}
 use Rattle.task_ast.specs.WellFormed.{IsWellFormed}
@@ -111,3 +111,18 @@ Nothing m s = ⊤
 -- the next of the plan's looks is the machine's clock
 abbrev pub IsDue : Spot → State → Type 0
 IsDue m s = next_look s.looks ≡ m.clock % 2 ^ 32
+
+-- a site's record doesn't hold, and it does
+abbrev pub IsFree : (site : ℕ) → Spot → State → Type 0
+IsFree k m s = s.cells.flag k ≢ s.epoch
+
+abbrev pub Holds : (site : ℕ) → Spot → State → Type 0
+Holds k m s = s.cells.flag k ≡ s.epoch
+
+-- the next epoch fits the state word
+abbrev pub MayCommit : Spot → State → Type 0
+MayCommit m s = s.epoch + 1 < 2 ^ 24
+
+-- the last look's time is no earlier than the stamp of a site's record that holds
+abbrev pub IsEarlier : (site : ℕ) → Spot → State → Type 0
+IsEarlier k m s = s.cells.flag k ≡ s.epoch → (t : ℕ) → s.frame.time ≡ Some t → s.cells.stamp k ≤ t
