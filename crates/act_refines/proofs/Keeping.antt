@@ -182,10 +182,10 @@ NotesStand =
     (c : Core) (bank : ℕ) (m : ℕ → ℕ) (store : Store) (f : Frame) (note : Note) → IsWellFormed c → HasRam c bank m store f → NoteFits note
     → HasRam c bank (put m (cell_of note) (noted_word note)) store (after_note note f)
 
-pub note_keeps : CellsStay → SameConstants → NotesStand → (p : Program) (d : Doing) (m counts : ℕ → ℕ) (s : State) (looks : List ℕ) (note : Note) → IsWellFormed (core_of d)
-    → MemoryStands p d true m counts s → NoteFits note
-    → MemoryStands p d true (put m (cell_of note) (noted_word note)) counts (with_rest (after_note note s.frame) looks s.issued s)
-note_keeps cells constants notes p d m counts s looks note well h fit =
-    memory_noted cells constants p d true m (put m (cell_of note) (noted_word note)) counts counts s (after_note note s.frame) looks s.issued well h
+pub note_keeps : CellsStay → SameConstants → NotesStand → (p : Program) (d : Doing) (m counts later : ℕ → ℕ) (s : State) (looks : List ℕ) (issued : ℕ → ℕ) (note : Note) → IsWellFormed (core_of d)
+    → MemoryStands p d true m counts s → NoteFits note → HasReadings p d later issued
+    → MemoryStands p d true (put m (cell_of note) (noted_word note)) later (with_rest (after_note note s.frame) looks issued s)
+note_keeps cells constants notes p d m counts later s looks issued note well h fit readings =
+    memory_noted cells constants p d true m (put m (cell_of note) (noted_word note)) counts later s (after_note note s.frame) looks issued well h
     (λ a low. miss m (cell_of note) (noted_word note) a (λ e. absurd (omega (arith, note_far note, low, e))))
-    (notes (core_of d) (worked d.scheme s.bank) m s.store s.frame note well h.ram fit) h.readings
+    (notes (core_of d) (worked d.scheme s.bank) m s.store s.frame note well h.ram fit) readings

@@ -17,7 +17,7 @@ use Rattle.cell_laws.specs.Standing.{Fits, IsSite, address_of, word_of, worked}
 use Rattle.cell_laws.proofs.Puts.{miss}
 use Rattle.ram_laws.specs.Notes.{Note, NoteFits, after_note, cell_of, noted_word, notes_time}
 use Rattle.ram_laws.specs.Ram.{HasRam}
-use Rattle.act_refines.specs.Between.{MemoryStands, WordFits, fixed_in, with_rest}
+use Rattle.act_refines.specs.Between.{HasReadings, MemoryStands, WordFits, fixed_in, with_rest}
 use Rattle.act_refines.specs.Does.{DoesAct, IsDue, Nothing, frame_of}
 use Rattle.act_refines.specs.Seen.{tells}
 use Rattle.act_refines.proofs.Going.{goes_on, related_at}
@@ -34,6 +34,16 @@ NotesKeep =
     (p : Program) (d : Doing) (m counts : ℕ → ℕ) (s : State) (looks : List ℕ) (note : Note) → IsWellFormed (core_of d)
     → MemoryStands p d true m counts s → NoteFits note
     → MemoryStands p d true (put m (cell_of note) (noted_word note)) counts (with_rest (after_note note s.frame) looks s.issued s)
+
+-- the same where issues are counted too
+abbrev pub NotesCount : Type 0
+NotesCount =
+    (p : Program) (d : Doing) (m counts later : ℕ → ℕ) (s : State) (looks : List ℕ) (issued : ℕ → ℕ) (note : Note) → IsWellFormed (core_of d)
+    → MemoryStands p d true m counts s → NoteFits note → HasReadings p d later issued
+    → MemoryStands p d true (put m (cell_of note) (noted_word note)) later (with_rest (after_note note s.frame) looks issued s)
+
+pub notes_keep : NotesCount → NotesKeep
+notes_keep count p d m counts s times note well h fit = count p d m counts counts s times s.issued note well h fit h.readings
 
 -- a lock is set
 pub lock_does : ((p : Program) (x : Fixed) (r next : ℕ) (s : Spot) → LockDoes p x r next s) → WritesKeep

@@ -16,7 +16,7 @@ use Rattle.run_plan.specs.declared.act.Act.{Act}
 use Rattle.run_plan.specs.declared.act.Act.TheVariants as act
 use Rattle.run_plan.specs.Cells.{State}
 use Rattle.run_plan.specs.Deeds.{act_done}
-use Rattle.run_plan.specs.Small.{Doing, Done, Way, ahead, first_way, second_way, third_way, does, fails, stuck, core_of}
+use Rattle.run_plan.specs.Small.{Doing, Done, Way, ahead, first_way, second_way, third_way, does, fails, stuck, core_of, flag_holds}
 use Rattle.run_plan.specs.Weights.{weight}
 use Rattle.line_laws.specs.Standing.{Lie}
 use Rattle.word_code.specs.ActCode.{act_code, entry}
@@ -126,3 +126,7 @@ MayCommit m s = s.epoch + 1 < 2 ^ 24
 -- the last look's time is no earlier than the stamp of a site's record that holds
 abbrev pub IsEarlier : (site : ℕ) → Spot → State → Type 0
 IsEarlier k m s = s.cells.flag k ≡ s.epoch → (t : ℕ) → s.frame.time ≡ Some t → s.cells.stamp k ≤ t
+
+-- the record holds exactly where the act is among those that keep
+abbrev pub IsAsKept : (keeps : Bool) → (site : ℕ) → Spot → State → Type 0
+IsAsKept keeps k m s = flag_holds s k ≡ keeps

@@ -1,5 +1,5 @@
 -- What is seen of a run: the words that are written in FRAM and the events, in one order for machine and plan.
-use Rattle.std.specs.Prelude.{List, [], ◌∷◌, ◌++◌, ℕ, Option, Some, None}
+use Rattle.std.specs.Prelude.{List, [], ◌∷◌, ◌++◌, ◌≡◌, ℕ, Option, Some, None}
 use Rattle.devices.specs.Journal.{JournalEvent, Place, placed}
 use Rattle.task_ast.specs.declared.core_form.Core.{Core}
 use Rattle.word_isa.specs.declared.parts.Scheme.{Scheme}
@@ -37,3 +37,25 @@ steps_seen c scheme (a ∷ atoms) s = write_seen c scheme (after_shown a.event s
 abbrev pub behind : Core → List Atom → State → State
 behind c [] s = s
 behind c (a ∷ atoms) s = behind c atoms (after_atom c a s)
+
+-- ---- cuts
+
+-- some of it, from the first on
+pub record IsFront (some all : List Seen) : Type 0 where
+  pub rest : List Seen
+  pub joined : some ++ rest ≡ all
+
+-- the addresses of the words that are seen, in order
+abbrev pub addresses : List Seen → List ℕ
+addresses [] = []
+addresses (puts at word ∷ seen) = at ∷ addresses seen
+addresses (tells e ∷ seen) = addresses seen
+
+-- and those of the cells that small steps write
+abbrev pub write_cells : Core → Scheme → State → Option CellWrite → List ℕ
+write_cells c scheme s None = []
+write_cells c scheme s (Some w) = address_of c scheme s w ∷ []
+
+abbrev pub cells_written : Core → Scheme → List Atom → State → List ℕ
+cells_written c scheme [] s = []
+cells_written c scheme (a ∷ atoms) s = write_cells c scheme (after_shown a.event s) a.write ++ cells_written c scheme atoms (after_atom c a s)

@@ -1,6 +1,6 @@
 //! What the code of each act does of its act, as the contracts of functions that do nothing (docs/CODE.md, "What is proved").
 ghost use Rattle.std.specs.Prelude.{◌≡◌, ◌-◌, ◌<◌, ◌≤◌, ℕ, Bool, List, Some, slice_get};
-ghost use Rattle.act_refines.specs.Does.{DoesAct, Holds, IsDue, IsEarlier, IsFree, MayCommit, Nothing};
+ghost use Rattle.act_refines.specs.Does.{DoesAct, Holds, IsAsKept, IsDue, IsEarlier, IsFree, MayCommit, Nothing};
 ghost use Rattle.cell_laws.specs.Standing.{IsSite};
 ghost use Rattle.devices.specs.Journal.{Place};
 ghost use Rattle.act_laws.specs.Words.{FitsLimit};
@@ -14,8 +14,8 @@ ghost use Rattle.word_machine.specs.State.{Program};
 use crate::memory::{a_note_keeps_memory, a_write_keeps_memory};
 use act_laws::{
     a_block_is_entered, a_block_is_left, a_block_is_sealed, a_call_chooses, a_call_is_sealed,
-    a_copy_chooses, a_kept_word_is_taken, a_lock_is_set, a_look_keeps_the_time,
-    a_record_is_dropped, an_instance_is_committed,
+    a_copy_chooses, a_copy_goes_by_its_class, a_copy_is_sealed, a_kept_word_is_taken,
+    a_lock_is_set, a_look_keeps_the_time, a_record_is_dropped, an_instance_is_committed,
 };
 use cell_laws::a_commit_is_one_word;
 use layout_laws::each_place_lies_in_its_area;
@@ -112,4 +112,21 @@ pub fn a_block_is_left_as_planned()
 {
     a_block_is_left();
     a_note_keeps_memory();
+}
+
+/// That of sealing a copy's record does: its class, its ends and its length, and the flag last.
+pub fn a_copy_is_sealed_as_planned()
+    ensures { (p : Program) (place_of : ℕ → Place) (d : Doing) (number : ℕ) (keeps : Bool) (k most : ℕ) → IsSite k → slice_get d.setting.task.sites (k - 1) ≡ Some (site.Copy most)
+        → DoesAct p place_of d number keeps (act.Seal k) (IsFree k) }
+{
+    a_copy_is_sealed();
+    a_write_keeps_memory();
+}
+
+/// That of a copy's classes does: it goes into the list of the record's class where it keeps, else of the class as it was valued.
+pub fn a_copy_goes_by_its_class_as_planned()
+    ensures { (p : Program) (place_of : ℕ → Place) (d : Doing) (number : ℕ) (keeps : Bool) (k most : ℕ) (single private rest : List Act) → IsSite k → slice_get d.setting.task.sites (k - 1) ≡ Some (site.Copy most)
+        → DoesAct p place_of d number keeps (act.ByClass k single private rest) (IsAsKept keeps k) }
+{
+    a_copy_goes_by_its_class();
 }

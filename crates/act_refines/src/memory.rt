@@ -1,6 +1,6 @@
 //! Memory goes on to stand for the plan's state, as the contracts of functions that do nothing (docs/CODE.md, "What is proved").
 ghost use Rattle.std.specs.Prelude.{ℕ, Bool, List, true};
-ghost use Rattle.act_refines.specs.Between.{MemoryStands, WordFits, with_rest};
+ghost use Rattle.act_refines.specs.Between.{HasReadings, MemoryStands, WordFits, with_rest};
 ghost use Rattle.cell_laws.specs.Standing.{Fits, address_of, word_of};
 ghost use Rattle.fram_ram.specs.Memories.{put};
 ghost use Rattle.ram_laws.specs.Notes.{Note, NoteFits, after_note, cell_of, noted_word};
@@ -26,11 +26,11 @@ pub fn a_write_keeps_memory()
     a_write_of_the_plan_leaves_ram();
 }
 
-/// And behind a word that is noted in RAM.
+/// And behind a word that is noted in RAM, with looks used up and issues counted.
 pub fn a_note_keeps_memory()
-    ensures { (p : Program) (d : Doing) (m counts : ℕ → ℕ) (s : State) (looks : List ℕ) (note : Note) → IsWellFormed (core_of d)
-        → MemoryStands p d true m counts s → NoteFits note
-        → MemoryStands p d true (put m (cell_of note) (noted_word note)) counts (with_rest (after_note note s.frame) looks s.issued s) }
+    ensures { (p : Program) (d : Doing) (m counts later : ℕ → ℕ) (s : State) (looks : List ℕ) (issued : ℕ → ℕ) (note : Note) → IsWellFormed (core_of d)
+        → MemoryStands p d true m counts s → NoteFits note → HasReadings p d later issued
+        → MemoryStands p d true (put m (cell_of note) (noted_word note)) later (with_rest (after_note note s.frame) looks issued s) }
 {
     a_note_is_one_word();
     words_of_ram_leave_cells();
