@@ -4,5 +4,7 @@ pub mod Copies
 pub mod Cuts
 pub mod Going
 pub mod Keeping
+pub mod Places
 pub mod Records
+pub mod Regions
 pub mod Simple

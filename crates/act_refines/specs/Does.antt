@@ -1,6 +1,8 @@
 -- What it means that an act's code does its act.
 use Rattle.std.specs.Prelude.{List, ◌≡◌, ◌≢◌, ℕ, ◌+◌, ◌%◌, ◌^◌, ◌<◌, ◌≤◌, ⊤, Some, Bool, true, false, length}
+use Rattle.std.specs.List.{AllByRecursion}
 use Rattle.devices.specs.Journal.{Place}
+use Rattle.task_ast.specs.declared.core_form.Core.{Core}
 use Rattle.task_ast.specs.declared.core_form.CoreTask.{CoreTask}
 use Rattle.task_ast.specs.WellFormed.{IsWellFormed}
 use Rattle.task_attempts.specs.Told.{next_look}
@@ -24,6 +26,7 @@ use Rattle.word_code.specs.Frames.{Frame, site_at, stub_at}
 use Rattle.word_code.specs.Sizes.{row_size}
 use Rattle.word_code.specs.Tables.{keeps_size}
 use Rattle.act_laws.specs.Codes.{Goes}
+use Rattle.cell_laws.specs.Standing.{is_home}
 use Rattle.act_refines.specs.Between.{AreRelated}
 use Rattle.act_refines.specs.Seen.{Seen, behind, steps_seen, trace_seen}
 
@@ -130,3 +133,7 @@ IsEarlier k m s = s.cells.flag k ≡ s.epoch → (t : ℕ) → s.frame.time ≡ 
 -- the record holds exactly where the act is among those that keep
 abbrev pub IsAsKept : (keeps : Bool) → (site : ℕ) → Spot → State → Type 0
 IsAsKept keeps k m s = flag_holds s k ≡ keeps
+
+-- arrays of nonvolatile words that are written
+abbrev pub AreHomes : Core → List ℕ → Type 0
+AreHomes c arrays = AllByRecursion (λ a. is_home c a ≡ true) arrays

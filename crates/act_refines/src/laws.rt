@@ -1,21 +1,23 @@
 //! What the code of each act does of its act, as the contracts of functions that do nothing (docs/CODE.md, "What is proved").
-ghost use Rattle.std.specs.Prelude.{◌≡◌, ◌-◌, ◌<◌, ◌≤◌, ℕ, Bool, List, Some, slice_get};
-ghost use Rattle.act_refines.specs.Does.{DoesAct, Holds, IsAsKept, IsDue, IsEarlier, IsFree, MayCommit, Nothing};
+ghost use Rattle.std.specs.Prelude.{◌≡◌, ◌-◌, ◌<◌, ◌≤◌, ℕ, Bool, List, [], Some, length, slice_get, slice_index_or};
+ghost use Rattle.act_refines.specs.Does.{AreHomes, DoesAct, Holds, IsAsKept, IsDue, IsEarlier, IsFree, MayCommit, Nothing};
 ghost use Rattle.cell_laws.specs.Standing.{IsSite};
 ghost use Rattle.devices.specs.Journal.{Place};
 ghost use Rattle.act_laws.specs.Words.{FitsLimit};
 ghost use Rattle.run_plan.specs.declared.act.Act.{Act};
 ghost use Rattle.run_plan.specs.declared.act.Act.TheVariants as act;
-ghost use Rattle.run_plan.specs.Small.{Doing};
+ghost use Rattle.run_plan.specs.Small.{Doing, core_of};
 ghost use Rattle.task_ast.specs.declared.core_form.Site.TheVariants as site;
 ghost use Rattle.task_ast.specs.declared.tree.Ann.{Ann};
+ghost use Rattle.word_isa.specs.declared.parts.Scheme.TheVariants.{Undo};
 ghost use Rattle.word_machine.specs.State.{Program};
 
 use crate::memory::{a_note_keeps_memory, a_write_keeps_memory};
 use act_laws::{
     a_block_is_entered, a_block_is_left, a_block_is_sealed, a_call_chooses, a_call_is_sealed,
     a_copy_chooses, a_copy_goes_by_its_class, a_copy_is_sealed, a_kept_word_is_taken,
-    a_lock_is_set, a_look_keeps_the_time, a_record_is_dropped, an_instance_is_committed,
+    a_lock_is_set, a_look_keeps_the_time, a_record_is_dropped, a_region_is_restored,
+    a_region_is_saved, an_instance_is_committed,
 };
 use cell_laws::a_commit_is_one_word;
 use layout_laws::each_place_lies_in_its_area;
@@ -129,4 +131,22 @@ pub fn a_copy_goes_by_its_class_as_planned()
         → DoesAct p place_of d number keeps (act.ByClass k single private rest) (IsAsKept keeps k) }
 {
     a_copy_goes_by_its_class();
+}
+
+/// That of saving a region does, under `undo`: unless its lock holds, each word that the region may write first goes aside.
+pub fn a_region_is_saved_as_planned()
+    ensures { (p : Program) (place_of : ℕ → Place) (d : Doing) (number : ℕ) (keeps : Bool) (r : ℕ) → r ≤ 128 → d.scheme ≡ Undo → AreHomes (core_of d) (slice_index_or d.firsts r [])
+        → DoesAct p place_of d number keeps (act.Save r) Nothing }
+{
+    a_region_is_saved();
+    a_write_keeps_memory();
+}
+
+/// And of restoring one of the task's regions: where its lock holds, each such word comes home.
+pub fn a_region_is_restored_as_planned()
+    ensures { (p : Program) (place_of : ℕ → Place) (d : Doing) (number : ℕ) (keeps : Bool) (r : ℕ) → r ≤ 128 → r < length d.firsts → d.scheme ≡ Undo → AreHomes (core_of d) (slice_index_or d.firsts r [])
+        → DoesAct p place_of d number keeps (act.Restore r) Nothing }
+{
+    a_region_is_restored();
+    a_write_keeps_memory();
 }
