@@ -1,0 +1,10 @@
+pub mod Choices
+pub mod Commits
+pub mod Copies
+pub mod Cuts
+pub mod Going
+pub mod Keeping
+pub mod Places
+pub mod Records
+pub mod Regions
+pub mod Simple

@@ -1,0 +1,7 @@
+-- By its template.
+use Rattle.act_refines.proofs.Records.{seal_block_does}
+use Rattle.act_refines.proofs.laws.a_block_is_sealed_as_planned.Goals as goal
+
+pub returns : goal.returns
+returns g = λ p place_of d number keeps k ann here is.
+    seal_block_does (λ q x f a i next s. g.a_block_is_sealed.ensures q x f a i next s) (λ q e begun m counts s w. g.a_write_keeps_memory.ensures q e begun m counts s w) p place_of d number keeps k ann here is

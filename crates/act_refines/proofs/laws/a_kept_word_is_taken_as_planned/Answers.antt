@@ -1,0 +1,8 @@
+-- By its template.
+use Rattle.act_refines.proofs.Records.{take_does}
+use Rattle.act_refines.proofs.Simple.{notes_keep}
+use Rattle.act_refines.proofs.laws.a_kept_word_is_taken_as_planned.Goals as goal
+
+pub returns : goal.returns
+returns g = λ p place_of d number keeps k ann here is.
+    take_does (λ q x f i next s. g.a_kept_word_is_taken.ensures q x f i next s) (notes_keep (λ q e m counts later s looks issued note. g.a_note_keeps_memory.ensures q e m counts later s looks issued note)) p place_of d number keeps k ann here is

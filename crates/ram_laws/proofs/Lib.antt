@@ -1,0 +1,4 @@
+pub mod CellsStay
+pub mod Noting
+pub mod Relating
+pub mod Stays
