@@ -1,3 +1,4 @@
+mod EventLemmas
 mod GrammarLemmas
 mod IssueLemmas
 mod PartLemmas

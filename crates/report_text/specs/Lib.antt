@@ -1,3 +1,4 @@
+pub mod Events
 pub mod Grammar
 pub mod Parts
 pub mod Reading

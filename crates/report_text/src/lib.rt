@@ -2,6 +2,7 @@
 #![tactic(auto)]
 
 mod error;
+mod event;
 mod keyword;
 mod laws;
 mod line;
@@ -12,6 +13,9 @@ mod report;
 mod words;
 
 pub use error::ReportError;
-pub use laws::the_report_of_a_journal_is_of_the_lines_that_tell_it;
+pub use event::{EventPlace, ReportEvent, event_in};
+pub use laws::{
+    an_event_and_its_text_give_each_other, the_report_of_a_journal_is_of_the_lines_that_tell_it,
+};
 pub use line::{LineText, Name, ReportLine, ReportPlace};
 pub use report::read_report;
