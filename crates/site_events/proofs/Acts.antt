@@ -15,14 +15,15 @@ use Rattle.region_split.specs.Regions.{touches}
 use Rattle.walk_run.specs.declared.trap.Trap.{Trap}
 use Rattle.walk_run.specs.Trap.{code_of}
 use Rattle.walk_run.specs.declared.place.Place.{Place}
-use Rattle.walk_run.specs.Store.{Store, word_at}
+use Rattle.walk_run.specs.Store.{Store, word_at, put_word, put_pointer}
+use Rattle.walk_run.specs.StoreLaws.{rooms_stay}
 use Rattle.walk_run.specs.Value.{value_of}
 use Rattle.walk_run.specs.Plain.{Ran, done, trapped, store_left, chosen, plain_done}
-use Rattle.walk_run.specs.PlainWrites.{Write, after_writes, plain_writes}
+use Rattle.walk_run.specs.PlainWrites.{Write, sets, points, after_writes, plain_writes}
 use Rattle.walk_run.specs.PlainSteps.{plain_steps, condition_steps}
 use Rattle.walk_run.specs.WriteLaws.{plain_gives}
 use Rattle.devices.specs.Journal.{traps, commits}
-use Rattle.task_attempts.specs.State.{Here, Rest}
+use Rattle.task_attempts.specs.State.{Account, Here, Rest}
 use Rattle.task_attempts.specs.Changes.{with_store, spent}
 use Rattle.task_attempts.specs.Told.{unless_trap}
 use Rattle.task_attempts.specs.Values.{branch, from_ran, plain_log}
@@ -30,7 +31,7 @@ use Rattle.task_attempts.specs.Boots.{task_of}
 use Rattle.task_attempts.specs.Attempts.{committed_by, commit, exit_log}
 use Rattle.run_plan.specs.declared.act.Act.{Act}
 use Rattle.run_plan.specs.declared.act.Act.TheVariants as act
-use Rattle.run_plan.specs.Cells.{State, puts_aside, puts_lock, puts_state, after_write}
+use Rattle.run_plan.specs.Cells.{Frame, State, puts_aside, puts_lock, puts_state, after_write}
 use Rattle.run_plan.specs.Small.{Doing, first_way, second_way, silent, showing, does, unless_fails, same, with_volatile, lock_holds}
 use Rattle.run_plan.specs.Deeds.{plain_ends, next_bank}
 use Rattle.run_plan.specs.Words.{first_places, home_writes, save_writes}
@@ -42,7 +43,7 @@ use Rattle.run_plan.specs.RunRows.{run_test}
 use Rattle.plan_restore.proofs.Puts.{NotConst}
 use Rattle.plan_restore.proofs.Writing.{TouchMay, WriteMay, plain_writes_may}
 use Rattle.site_events.specs.Records.{view}
-use Rattle.site_events.specs.Standing.{sites_in, sites_of, StandsAt}
+use Rattle.site_events.specs.Standing.{FitsIn, sites_in, sites_of, StandsAt}
 use Rattle.site_events.specs.Follows.{Known, Related, Follows, PointsWithin, Goes}
 use Rattle.site_events.proofs.Places.{homes_unseen, saves_unseen, all_view, all_frame, all_stand, lock_stands, commit_stands}
 use Rattle.site_events.proofs.Stores.{writes_leave}
@@ -56,6 +57,15 @@ saves_leave c v (at ∷ places) s = saves_leave c v places (after_write c.arrays
 at_most : (held : Bool) (words : ℕ) → cond held 0 words ≤ words
 at_most true words = omega arith
 at_most false words = omega arith
+
+-- a write leaves each array as long as it was
+pub put_fits : (c : Core) (at : Place) (w : ℕ) (store : Store) → FitsIn c store → FitsIn c (put_word at w store)
+put_fits c at w store fits a = rooms_stay at w store a ∙ fits a
+
+pub writes_fit : (c : Core) (writes : List Write) (store : Store) → FitsIn c store → FitsIn c (after_writes writes store)
+writes_fit c [] store fits = fits
+writes_fit c (points q at ∷ writes) store fits = writes_fit c writes (put_pointer q at store) fits
+writes_fit c (sets at w ∷ writes) store fits = writes_fit c writes (put_word at w store) (put_fits c at w store fits)
 
 pub no_spare : (spare a b : ℕ) → a + spare ≤ b → a ≤ b
 no_spare spare a b le = omega (arith, le)
@@ -78,11 +88,11 @@ module _ (p : Planned) (Sees : Store → Small → Type 0) (fuel number : ℕ) (
   pub sites_are : (spare : ℕ) (at : At) (here : Here) → Pair spare at here → sites_of c at.state.task ≡ t.sites
   sites_are spare at here related = ap sites_in (ap (task_of c) (related.stands.next ∙ related.running) ∙ there)
 
-  ends_go : (K : Known) (spare : ℕ) (a : Act) (go : Onward) (rest : Rest) → Go K spare go rest → (writes : List Write) (r : Ran) → AllByRecursion (WriteMay (NotConst c)) writes → PointsWithin (pointing t) (store_left r)
+  ends_go : (K : Known) (spare : ℕ) (a : Act) (go : Onward) (rest : Rest) → Go K spare go rest → (writes : List Write) (r : Ran) → AllByRecursion (WriteMay (NotConst c)) writes → PointsWithin (pointing t) (store_left r) → FitsIn c (store_left r)
       → (at : At) (here : Here) → after_writes writes at.state.store ≡ store_left r → at.state.frame.mode ≡ Some here.mode → here.standing.next ≡ number → StandsAt c (view at.state) here.standing
-      → at.weights + spare ≤ here.steps p.plan.scheme → K at.state.frame here.standing.account.records
+      → at.weights + spare ≤ here.steps p.plan.scheme → K at.state.frame here.standing.account
       → Goes p Sees fuel at.state.store here.standing (deed c a (plain_ends c (map silent (home_writes c writes)) r) (straight go) at) (from_ran r rest here)
-  ends_go K spare a go rest follows writes (done store) may within at here gives mode running stands few known =
+  ends_go K spare a go rest follows writes (done store) may within fits at here gives mode running stands few known =
       let homes = home_writes c writes in
       let unseen = homes_unseen c writes in
       let s = all_written c homes at.state in
@@ -97,8 +107,9 @@ module _ (p : Planned) (Sees : Store → Small → Type 0) (fuel number : ℕ) (
         stands = stands';
         weights = few;
         within = within;
-      }) (subst (λ f. K f here.standing.account.records) (sym frame) known)))
-  ends_go K spare a go rest follows writes (trapped why store) may within at here gives mode running stands few known =
+        fits = fits;
+      }) (subst (λ f. K f here.standing.account) (sym frame) known)))
+  ends_go K spare a go rest follows writes (trapped why store) may within fits at here gives mode running stands few known =
       let homes = home_writes c writes in
       let unseen = homes_unseen c writes in
       let s = all_written c homes at.state in
@@ -117,18 +128,19 @@ module _ (p : Planned) (Sees : Store → Small → Type 0) (fuel number : ℕ) (
       let steps = plain_steps s at.state.store in
       let begun : At = record at { weights = at.weights + steps } in
       let within = subst (PointsWithin (pointing t)) (sym related.store) related.within in
+      let fits = subst (FitsIn c) (plain_gives s at.state.store) (writes_fit c (plain_writes s at.state.store) at.state.store (subst (FitsIn c) (sym related.store) related.fits)) in
       let may = plain_writes_may c (pointing t) (NotConst c) (λ a h. h) s all given at.state.store within in
-      let told = ends_go K spare (act.Plain s) go rest follows (plain_writes s at.state.store) (plain_done s at.state.store) may.writable may.within begun (spent steps here)
+      let told = ends_go K spare (act.Plain s) go rest follows (plain_writes s at.state.store) (plain_done s at.state.store) may.writable may.within fits begun (spent steps here)
       (plain_gives s at.state.store) related.mode related.running related.stands (let few = related.weights in omega (arith, few)) known in
       subst (λ store. Goes p Sees fuel at.state.store here.standing (act_steps d (act.Plain s) (straight go) at) (from_ran (plain_done s store) rest (spent (plain_steps s store) here))) related.store told
 
   -- an act that changes nothing at its end
-  pub same_goes : (K : Known) (spare : ℕ) (a : Act) (go : Onward) (rest : Rest) → Go K spare go rest → (at : At) (here : Here) → Pair spare at here → K at.state.frame here.standing.account.records
+  pub same_goes : (K : Known) (spare : ℕ) (a : Act) (go : Onward) (rest : Rest) → Go K spare go rest → (at : At) (here : Here) → Pair spare at here → K at.state.frame here.standing.account
       → Goes p Sees fuel at.state.store here.standing (act_end c a same go at) (rest here)
   same_goes K spare a go rest follows at here related known = end_goes p Sees fuel a same go at at.state.store here.standing (rest here) related.stands (λ seen. follows at here related known)
 
   -- a condition, and the way that it takes
-  value_goes : (K : Known) (spare : ℕ) (a : Act) (x y go : Onward) (front other : Rest) → Go K spare x front → Go K spare y other → (r : Result ℕ Trap) (at : At) (here : Here) → Pair spare at here → K at.state.frame here.standing.account.records
+  value_goes : (K : Known) (spare : ℕ) (a : Act) (x y go : Onward) (front other : Rest) → Go K spare x front → Go K spare y other → (r : Result ℕ Trap) (at : At) (here : Here) → Pair spare at here → K at.state.frame here.standing.account
       → Goes p Sees fuel at.state.store here.standing (deed c a (unless_fails r (λ word. does [] same (chosen word first_way second_way))) (by_way x y go go) at) (unless_trap r (λ word. chosen word front other) here)
   value_goes K spare a x y go front other fx fy (Ok zero) at here related known = same_goes K spare a y other fy at here related known
   value_goes K spare a x y go front other fx fy (Ok (suc n)) at here related known = same_goes K spare a x front fx at here related known
@@ -141,7 +153,7 @@ module _ (p : Planned) (Sees : Store → Small → Type 0) (fuel number : ℕ) (
       (λ at here related known.
       let begun : At = record at { weights = at.weights + condition_steps e } in
       let told = value_goes K spare (act.Test e ys ns) (acts_run d again ys go) (acts_run d again ns go) go front other fx fy (value_of e at.state.store) begun (spent (condition_steps e) here)
-      (record { store = related.store; mode = related.mode; running = related.running; stands = related.stands; weights = (let few = related.weights in omega (arith, few)); within = related.within }) known in
+      (record { store = related.store; mode = related.mode; running = related.running; stands = related.stands; weights = (let few = related.weights in omega (arith, few)); within = related.within; fits = related.fits }) known in
       subst (λ store. Goes p Sees fuel at.state.store here.standing (act_steps d (act.Test e ys ns) (by_way (acts_run d again ys go) (acts_run d again ns go) go go) at)
       (unless_trap (value_of e store) (λ word. chosen word front other) (spent (condition_steps e) here))) related.store told)
 
@@ -166,14 +178,15 @@ module _ (p : Planned) (Sees : Store → Small → Type 0) (fuel number : ℕ) (
         stands = stands;
         weights = (let few = related.weights in omega (arith, few, held));
         within = related.within;
-      }) (subst (λ f. K f here.standing.account.records) (sym frame) known))
+        fits = related.fits;
+      }) (subst (λ f. K f here.standing.account) (sym frame) known))
 
   -- the lock of a region that was reached, or of the one behind
-  pub lock_follows : (K : Known) (spare r : ℕ) → ((here : Here) → r ≤ here.standing.account.furthest + 1) → (go : Onward) (rest : Rest) → Go K spare go rest → Go K (spare + 2) (act_steps d (act.Lock r) (straight go)) rest
+  pub lock_follows : (K : Known) (spare r : ℕ) → ((f : Frame) (acc : Account) → K f acc → r ≤ acc.furthest + 1) → (go : Onward) (rest : Rest) → Go K spare go rest → Go K (spare + 2) (act_steps d (act.Lock r) (straight go)) rest
   lock_follows K spare r reached go rest follows at here related known =
       let begun : At = record at { weights = at.weights + 2 } in
       let s = after_write c.arrays (puts_lock r at.state.epoch) at.state in
-      let stands = lock_stands c at.state here related.stands r (reached here) in
+      let stands = lock_stands c at.state here related.stands r (reached at.state.frame here.standing.account known) in
       silent_goes p Sees fuel (act.Lock r) (puts_lock r at.state.epoch) (act_end c (act.Lock r) same go) begun here.standing (rest here) stands
       (same_goes K spare (act.Lock r) go rest follows (with_state s begun) here (record {
         store = related.store;
@@ -182,6 +195,7 @@ module _ (p : Planned) (Sees : Store → Small → Type 0) (fuel number : ℕ) (
         stands = stands;
         weights = (let few = related.weights in omega (arith, few));
         within = related.within;
+        fits = related.fits;
       }) known)
 
   -- ---- exits
@@ -197,7 +211,7 @@ module _ (p : Planned) (Sees : Store → Small → Type 0) (fuel number : ℕ) (
         let s = after_write c.arrays (puts_state (at.state.epoch + 1) n bank) at.state in
         let begun : At = record at { weights = at.weights + 32 } in
         let later : At = record { state = s; weights = at.weights + 32 } in
-        let stands = commit_stands c at.state here related.stands n bank few in
+        let stands = commit_stands c at.state here related.stands n bank few related.fits in
         let few = related.weights in
         let enough : at.weights + 32 ≤ here.steps p.plan.scheme + 32 = omega (arith, few) in
         shown_goes p Sees fuel (act.Commit n) (Some (puts_state (at.state.epoch + 1) n bank)) (commits n) (act_end c (act.Commit n) same again) begun here.standing

@@ -4,6 +4,9 @@ use Rattle.std.proofs.Common.{◌≡◌, ◌∙◌, ℕ, zero, suc, ◌+◌, ◌
 use Rattle.std.specs.Prelude.{⊤, Option, Some, None, sum_by}
 use Rattle.std.specs.List.{AllByRecursion, range_with_len}
 use Rattle.std.proofs.lemmas.List.FromFn.{length-range_with_len}
+use Rattle.task_ast.specs.declared.tree.Kind.{Kind}
+use Rattle.task_ast.specs.declared.tree.Kind.TheVariants.{Nv, Const, Vol}
+use Rattle.task_ast.specs.declared.core_form.Array.{Array}
 use Rattle.task_ast.specs.declared.core_form.CoreTask.{CoreTask}
 use Rattle.task_ast.specs.declared.core_form.Core.{Core}
 use Rattle.task_ast.specs.CoreSites.{room, all_numbers}
@@ -11,7 +14,7 @@ use Rattle.task_ast.specs.Pointing.{pointing}
 use Rattle.task_ast.specs.WellFormed.{IsCoreTask, IsWellFormed, scope_of}
 use Rattle.region_split.specs.Regions.{is_nonvolatile, first, regions}
 use Rattle.region_split.specs.Owners.{all_first}
-use Rattle.walk_run.specs.Store.{Store, unset, fresh}
+use Rattle.walk_run.specs.Store.{Store, unset, fresh_words, fresh_arrays, fresh}
 use Rattle.devices.specs.Journal.{begins}
 use Rattle.devices.specs.declared.world.World.{World}
 use Rattle.word_isa.specs.declared.parts.Scheme.{Scheme}
@@ -38,13 +41,12 @@ use Rattle.plan_restore.specs.Kept.{planned, IsKept}
 use Rattle.plan_restore.proofs.Solid.{body_solid}
 use Rattle.plan_laws.specs.PlacedSites.{task_placed, Next}
 use Rattle.site_events.specs.Records.{view}
-use Rattle.site_events.specs.Standing.{StandsAt}
-use Rattle.site_events.specs.Follows.{PointsWithin, Outer, Beside, Told, Goes}
-use Rattle.site_events.specs.NoCopies.{HasNoCopy, HasNoCopies}
+use Rattle.site_events.specs.Standing.{FitsIn, StandsAt}
+use Rattle.site_events.specs.Follows.{PointsWithin, Beside, Told, Goes}
 use Rattle.site_events.proofs.Places.{IsUnseen, restores_unseen, all_view, all_stand}
 use Rattle.site_events.proofs.Telling.{nothing_goes, first_goes, writes_go, end_goes}
 use Rattle.site_events.proofs.Acts.{Go, Again, save_follows, lock_follows, exit_follows}
-use Rattle.site_events.proofs.Bodies.{BareLog, body_follows}
+use Rattle.site_events.proofs.Bodies.{BareLog, Blocks, Up, passed, body_follows}
 
 -- ---- tables by tasks
 
@@ -99,6 +101,20 @@ nowhere (x ∷ names) (suc q) = nowhere names q
 fresh_within : (c : Core) (t : CoreTask) (s : Store) → PointsWithin (pointing t) (fresh c s)
 fresh_within c t s q at is = absurd (let none = nowhere c.pointers q in let clash : None ≡ Some at = sym none ∙ is in cc clash)
 
+word_fits : (k : Kind) (first words : List ℕ) (n : ℕ) → length first ≡ n → length words ≡ n → length (fresh_words k first words) ≡ n
+word_fits Nv first words n one two = two
+word_fits Const first words n one two = two
+word_fits Vol first words n one two = one
+
+words_fit : (arrays : List Array) (words : List (List ℕ)) (a : ℕ) → length (slice_index_or words a []) ≡ room (slice_get arrays a) → length (slice_index_or (fresh_arrays arrays words) a []) ≡ room (slice_get arrays a)
+words_fit [] words a fits = fits
+words_fit (x ∷ arrays) [] a fits = fits
+words_fit (x ∷ arrays) (w ∷ words) zero fits = word_fits x.kind x.first w (length x.first) refl fits
+words_fit (x ∷ arrays) (w ∷ words) (suc a) fits = words_fit arrays words a fits
+
+fresh_fits : (c : Core) (s : Store) → FitsIn c s → FitsIn c (fresh c s)
+fresh_fits c s fits a = words_fit c.arrays s.words a (fits a)
+
 -- what saving region 0 may weigh
 abbrev saving : Scheme → (words : ℕ) → ℕ
 saving Undo words = 0 + 2 + (6 + 12 * words)
@@ -128,19 +144,19 @@ save_enough Bank c t words is a b few = enough (words_where is_volatile c) (leng
 -- ---- an attempt
 
 -- nothing is known of blocks where none is around
-abbrev no_blocks : Outer
+abbrev no_blocks : Blocks
 no_blocks m o b = ⊤
 
 module _ (c : Core) (world : World) (scheme : Scheme) (bare : BareLog (rules_of c world)) where
   abbrev pub p : Planned
   p = planned c world scheme
 
-  module _ (number : ℕ) (t : CoreTask) (there : task_of c number ≡ Some t) (well : IsCoreTask c t) (none : HasNoCopy t) (split : at_task p.plan.firsts number [] ≡ all_first c t) (fuel : ℕ) (again : Onward) where
+  module _ (number : ℕ) (t : CoreTask) (there : task_of c number ≡ Some t) (well : IsCoreTask c t) (split : at_task p.plan.firsts number [] ≡ all_first c t) (fuel : ℕ) (again : Onward) where
     abbrev d : Doing
     d = doing p number t
 
     abbrev Going : (spare : ℕ) → Onward → Rest → Type 0
-    Going spare go rest = Go p (IsKept p) fuel number t there again (Beside no_blocks) spare go rest
+    Going spare go rest = Go p (IsKept p) fuel number t there again (Beside (Up no_blocks (passed t 0))) spare go rest
 
     -- what is saved of region 0 is what it may write first
     words_there : region_words d 0 ≡ first_words c t 0
@@ -149,9 +165,9 @@ module _ (c : Core) (world : World) (scheme : Scheme) (bare : BareLog (rules_of 
     saved_follows : (k : Scheme) (go : Onward) (rest : Rest) → Going 0 go rest → Going (saving k (region_words d 0)) (acts_run d again (save_acts k 0) go) rest
     saved_follows Bank go rest follows = follows
     saved_follows Undo go rest follows =
-        let K = Beside no_blocks in
+        let K = Beside (Up no_blocks (passed t 0)) in
         save_follows p (IsKept p) fuel number t there again K (0 + 2) 0 (act_steps d (act.Lock 0) (straight go)) rest
-        (lock_follows p (IsKept p) fuel number t there again K 0 0 (λ here. omega arith) go rest follows)
+        (lock_follows p (IsKept p) fuel number t there again K 0 0 (λ f acc h. omega arith) go rest follows)
 
     -- a beginning: its event, its writes, and its end, from which the store is that with which a task begins
     begins_go : (rest : Rest) (behind : Onward) → Going (saving scheme (region_words d 0)) behind rest → (at : At) (here : Here) → number ≡ here.standing.next → StandsAt c (view at.state) here.standing → at.weights ≤ here.steps scheme
@@ -174,7 +190,8 @@ module _ (c : Core) (world : World) (scheme : Scheme) (bare : BareLog (rules_of 
           stands = stands';
           weights = save_enough scheme c t (region_words d 0) words_there at.weights (here.steps scheme) few;
           within = fresh_within c t here.standing.committed;
-        }) tt)))
+          fits = fresh_fits c here.standing.committed stands.good.fits;
+        }) (tt, omega arith))))
 
     many : length (all_numbers t.body) ≡ length t.sites
     many = ap length well.sites.numbers ∙ length-range_with_len 1 (length t.sites)
@@ -186,7 +203,7 @@ module _ (c : Core) (world : World) (scheme : Scheme) (bare : BareLog (rules_of 
     pub attempt_goes : (rest : Rest) → Again p (IsKept p) fuel number t there again rest → (at : At) (here : Here) → number ≡ here.standing.next → StandsAt c (view at.state) here.standing → at.weights ≤ here.steps scheme
         → Goes p (IsKept p) (suc fuel) at.state.store here.standing (acts_run d again (task_acts scheme number t) nothing at) (attempt_log (setting_of (rules_of c world) t) rest here)
     attempt_goes rest follows at here which stands few =
-        let K = Beside no_blocks in
+        let K = Beside (Up no_blocks (passed t (0 + length (all_numbers t.body)))) in
         let setting = setting_of (rules_of c world) t in
         let body = body_acts (around scheme t) t.body in
         let leave = exit_act t.exit ∷ [] in
@@ -194,7 +211,7 @@ module _ (c : Core) (world : World) (scheme : Scheme) (bare : BareLog (rules_of 
         let body_run = acts_run d again body leave_run in
         let leave_log = exit_log t.exit (commit rest) in
         let leaves_so = exit_follows p (IsKept p) fuel number t there again rest follows K (scope_of c t) 1 t.exit well.exit nothing in
-        let body_so = body_follows p (IsKept p) fuel number t there again bare none no_blocks t.body 1 false well.body 0 next (task_placed c.arrays t well.sites) (body_solid c t t.body 1 false [] well.body) (λ q x is. is)
+        let body_so = body_follows p (IsKept p) fuel number t there again bare split no_blocks t.body 1 false well.body 0 next (task_placed c.arrays t well.sites) (body_solid c t t.body 1 false [] well.body) (λ q x is. is)
         (λ j x less is. is) (λ m o u b v same same' h. tt) leave_run leave_log leaves_so in
         let begins_so = begins_go (body_log setting t.body leave_log) (acts_run d again (save_acts scheme 0) body_run) (saved_follows scheme body_run (body_log setting t.body leave_log) body_so) at here which stands few in
         subst (λ run. Goes p (IsKept p) (suc fuel) at.state.store here.standing (run at) (attempt_log setting rest here))
@@ -207,7 +224,7 @@ module _ (c : Core) (world : World) (scheme : Scheme) (bare : BareLog (rules_of 
   abbrev pub Goings : (fuel : ℕ) → Onward → Rest → Type 0
   Goings fuel again rest = (at : At) (here : Here) → StandsAt c (view at.state) here.standing → at.weights ≤ here.steps scheme → Goes p (IsKept p) fuel at.state.store here.standing (again at) (rest here)
 
-  module _ (w : IsWellFormed c) (none : HasNoCopies c) where
+  module _ (w : IsWellFormed c) where
     -- an attempt of the task of a number, where there is one
     number_goes : (fuel : ℕ) (again : Onward) (rest : Rest) → Goings fuel again rest → (number : ℕ) (o : Option CoreTask) → task_of c number ≡ o → (at : At) (here : Here)
         → number ≡ here.standing.next → StandsAt c (view at.state) here.standing → at.weights ≤ here.steps scheme
@@ -220,7 +237,7 @@ module _ (c : Core) (world : World) (scheme : Scheme) (bare : BareLog (rules_of 
         let e0 : 1 + n ≡ suc n = omega arith in
         subst (λ (acts : List Act). Goes p (IsKept p) (suc fuel) at.state.store here.standing (acts_run (doing p (suc n) t) again acts nothing at) (attempt_log (setting_of (rules_of c world) t) rest here))
         (sym (there.0 ∙ ap (λ k. task_acts scheme k t) e0))
-        (attempt_goes (suc n) t is (of_task (IsCoreTask c) c.tasks n t w.tasks is) (of_task HasNoCopy c.tasks n t none is) there.1 fuel again rest follows at here which stands few)
+        (attempt_goes (suc n) t is (of_task (IsCoreTask c) c.tasks n t w.tasks is) there.1 fuel again rest follows at here which stands few)
 
     -- as many attempts as there are of the plan, or more of the rules, go on for as many small steps
     pub attempts_go : (i j : ℕ) → i ≤ j → Goings i (attempts p i) (attempts_log (rules_of c world) j)

@@ -65,7 +65,7 @@ module _ (p : Planned) (Sees : Store → Small → Type 0) (fuel number : ℕ) (
     -- ---- its beginning
 
     abbrev IsLooked : (time : ℕ) → Known
-    IsLooked time f rs = P f.mode f.outer f.begun × (f.time ≡ Some time)
+    IsLooked time f acc = P f.mode f.outer f.begun acc.furthest × (f.time ≡ Some time)
 
     enter_follows : (most : ℕ) → k ≡ most + 1 → Stable P most → (time spare : ℕ) (go : Onward) (rest : (outside inside : Mode) → Rest) → ((outside inside : Mode) → Going (Beside (Inside P k outside inside time)) spare go (rest outside inside))
         → Going (IsLooked time) (spare + 40) (act_steps d (act.Enter k) (straight go))
@@ -84,9 +84,9 @@ module _ (p : Planned) (Sees : Store → Small → Type 0) (fuel number : ℕ) (
         let here' = with_mode inside here in
         let log = rest m inside here' in
         let other : (j : ℕ) → j ≤ most → (k == j) ≡ false = (λ j few. ne_eqb k j (λ same. omega (arith, is, few, same))) in
-        let outer : P (Some m) f.outer f.begun = stable (Some m) at.state.frame.outer f.outer at.state.frame.begun f.begun
+        let outer : P (Some m) f.outer f.begun here.standing.account.furthest = stable (Some m) at.state.frame.outer f.outer at.state.frame.begun f.begun here.standing.account.furthest
         (λ j few. sym (put_other k j (Some m) at.state.frame.outer (other j few))) (λ j few. sym (put_other k j (Some time) at.state.frame.begun (other j few)))
-        (subst (λ o. P o at.state.frame.outer at.state.frame.begun) related.mode known.0) in
+        (subst (λ o. P o at.state.frame.outer at.state.frame.begun here.standing.account.furthest) related.mode known.0) in
         let told = end_goes p Sees fuel (act.Enter k) change go begun at.state.store here.standing log related.stands
         (λ seen. follows m inside (with_state (change at.state) begun) here' (record {
           store = related.store;
@@ -95,6 +95,7 @@ module _ (p : Planned) (Sees : Store → Small → Type 0) (fuel number : ℕ) (
           stands = related.stands;
           weights = (let few = related.weights in omega (arith, few));
           within = related.within;
+          fits = related.fits;
         }) (ap Some same_mode, put_here k (Some m) at.state.frame.outer, put_here k (Some time) at.state.frame.begun, outer)) in
         let with_time = subst (λ (o : Option ℕ). Goes p Sees fuel at.state.store here.standing (deed c (act.Enter k) (have o (Entered at m)) (straight go) begun) log) (sym known.1) told in
         subst (λ (o : Option Mode). Goes p Sees fuel at.state.store here.standing (deed c (act.Enter k) (have o (λ m. have at.state.frame.time (Entered at m))) (straight go) begun) log) (sym related.mode) with_time
@@ -109,10 +110,10 @@ module _ (p : Planned) (Sees : Store → Small → Type 0) (fuel number : ℕ) (
     -- ---- its end
 
     abbrev IsClosing : (time : ℕ) → Known
-    IsClosing time f rs = P f.mode f.outer f.begun × (f.begun k ≡ Some time)
+    IsClosing time f acc = P f.mode f.outer f.begun acc.furthest × (f.begun k ≡ Some time)
 
     abbrev IsClosed : (time : ℕ) → Known
-    IsClosed time f rs = IsClosing time f rs × (rs k ≡ None)
+    IsClosed time f acc = IsClosing time f acc × (acc.records k ≡ None)
 
     block_seal_follows : (time spare : ℕ) (go : Onward) (rest : Rest) → Going (Beside P) spare go rest → Going (IsClosed time) (spare + 8) (act_steps d (act.Seal k) (straight go)) (seal k (of_block time) rest)
     block_seal_follows time spare go rest follows at here related known =
@@ -123,7 +124,7 @@ module _ (p : Planned) (Sees : Store → Small → Type 0) (fuel number : ℕ) (
         let here' = with_record k (Some (of_block time)) here in
         let stands1 = stamp_stands c s0 here related.stands k time known.1 in
         let place : site_at (sites_of c s0.task) k ≡ Some (site.Block ann) = ap (λ sites. site_at sites k) (sites_are p Sees fuel number t there again (spare + 8) at here related) ∙ standing in
-        let stands2 = seal_stands c s1 here stands1 k (of_block time) (subst (Says (view s1) (kept_from (sites_of c s0.task) k) k (of_block time)) (sym place) (put_here k time s0.cells.stamp)) in
+        let stands2 = seal_stands c s1 here stands1 k (of_block time) (λ sort to from kept is. absurd (cc is)) (subst (Says (view s1) (kept_from (sites_of c s0.task) k) k (of_block time)) (sym place) (put_here k time s0.cells.stamp)) in
         let later : Near spare (with_state s2 begun) here' = record {
           store = related.store;
           mode = related.mode;
@@ -131,6 +132,7 @@ module _ (p : Planned) (Sees : Store → Small → Type 0) (fuel number : ℕ) (
           stands = stands2;
           weights = (let few = related.weights in omega (arith, few));
           within = related.within;
+          fits = related.fits;
         } in
         let told = silent_goes p Sees fuel (act.Seal k) (puts_stamp k time) (small c (act.Seal k) (writing (puts_flag k s0.epoch) (seals k)) (act_end c (act.Seal k) same go)) begun here.standing _ stands1
         (shown_goes p Sees fuel (act.Seal k) (Some (puts_flag k s0.epoch)) (seals k) (act_end c (act.Seal k) same go) (with_state s1 begun) here.standing (logged (seals k) None here') (rest here')
@@ -142,11 +144,11 @@ module _ (p : Planned) (Sees : Store → Small → Type 0) (fuel number : ℕ) (
 
     sealing_follows : (time : ℕ) (go : Onward) (rest : Rest) → Going (Beside P) 0 go rest → Going (IsClosing time) 12 (acts_run d again (block_end_acts k) go) (drop_one k (seal k (of_block time) rest))
     sealing_follows time go rest follows =
-        drop_follows p Sees fuel number t there again P k (IsClosing time) (IsClosed time) k (0 + 8) (act_steps d (act.Seal k) (straight go)) (seal k (of_block time) rest) (λ f rs h. (h, put_here k None rs)) (block_seal_follows time 0 go rest follows)
+        drop_follows p Sees fuel number t there again P k (IsClosing time) (IsClosed time) k (0 + 8) (act_steps d (act.Seal k) (straight go)) (seal k (of_block time) rest) (λ f acc h. (h, put_here k None acc.records)) (block_seal_follows time 0 go rest follows)
 
     -- by the mode inside
     left_goes : (outside inside : Mode) (time : ℕ) (go : Onward) (rest : Rest) → Going (Beside P) 0 go rest → (a : Act) (at : At) (here : Here) → Near 12 at (with_mode inside here)
-        → P (Some outside) at.state.frame.outer at.state.frame.begun → at.state.frame.begun k ≡ Some time
+        → P (Some outside) at.state.frame.outer at.state.frame.begun here.standing.account.furthest → at.state.frame.begun k ≡ Some time
         → Goes p Sees fuel at.state.store here.standing (deed c a (does [] (λ after. record after { frame = record at.state.frame { mode = Some outside } }) (leaving inside)) (by_way (acts_run d again (block_end_acts k) go) go go go) at)
         (block_sealed k time inside (λ after. rest (with_mode outside after)) here)
     left_goes outside inside time go rest follows a at here related outer begun = by_mode inside (leaving inside) refl
@@ -162,6 +164,7 @@ module _ (p : Planned) (Sees : Store → Small → Type 0) (fuel number : ℕ) (
           stands = related.stands;
           weights = (let few = related.weights in omega (arith, few, less));
           within = related.within;
+          fits = related.fits;
         }
 
         seals_so : Goes p Sees fuel at.state.store here.standing (act_end c a change (acts_run d again (block_end_acts k) go) at) (drop_one k (seal k (of_block time) (λ after. rest (with_mode outside after))) here)
@@ -190,30 +193,32 @@ module _ (p : Planned) (Sees : Store → Small → Type 0) (fuel number : ℕ) (
           stands = related.stands;
           weights = (let few = related.weights in omega (arith, few));
           within = related.within;
+          fits = related.fits;
         }) known.3 known.2 in
         let with_outer = subst (λ (o : Option Mode). Goes p Sees fuel at.state.store here.standing (deed c a (have o (λ m. does [] (λ after. record after { frame = record at.state.frame { mode = Some m } }) (leaving inside))) ways begun) log) (sym known.1) told in
         subst (λ (o : Option Mode). Goes p Sees fuel at.state.store here.standing (deed c a (have o (λ inside. have (at.state.frame.outer k) (λ m. does [] (λ after. record after { frame = record at.state.frame { mode = Some m } }) (leaving inside)))) ways begun) log) (sym known.0) with_outer)
 
-    -- ---- the whole block
+  -- ---- the whole block
 
-    -- What a block's acts do is what the rules say of it, if its body's acts do what they say of the body, and what comes
-    -- behind does what they say behind it.
-    pub block_follows : (most : ℕ) → k ≡ most + 1 → Stable P most → (body : List Act) (inner : Rest → Rest)
-        → ((outside inside : Mode) (time : ℕ) (go : Onward) (rest : Rest) → Going (Beside (Inside P k outside inside time)) 0 go rest → Going (Beside (Inside P k outside inside time)) 0 (acts_run d again body go) (inner rest))
-        → (go : Onward) (rest : Rest) → Going (Beside P) 0 go rest → Going (Beside P) 0 (acts_run d again (block_acts k body) go) (block_log setting k inner rest)
-    block_follows most is stable body inner body_so go rest follows at here related outer =
-        let leave = act.Leave k (block_end_acts k) in
-        let leaving_run = act_run d again leave go in
-        let joined : acts_run d again (body ++ leave ∷ []) go ≡ acts_run d again body leaving_run = run_joined d again body (leave ∷ []) go in
-        let enter_so = (λ (time : ℕ). enter_follows most is stable time 0 (acts_run d again body leaving_run) (λ outside inside. inner (block_end k time outside inside rest))
-        (λ outside inside. body_so outside inside time leaving_run (block_end k time outside inside rest) (leave_follows outside inside time go rest follows))) in
-        let look_so = look_follows p Sees fuel number t there again P k (Beside P) IsLooked (0 + 40) (act_steps d (act.Enter k) (straight (acts_run d again body leaving_run))) (block_inside setting k inner rest) (λ time f rs h. (h, refl)) enter_so in
-        let told = look_so at (spent block_steps here) (record {
-          store = related.store;
-          mode = related.mode;
-          running = related.running;
-          stands = related.stands;
-          weights = (let few = related.weights in omega (arith, few));
-          within = related.within;
-        }) outer in
-        subst (λ (f : Onward). Goes p Sees fuel at.state.store here.standing (act_steps d (act.Look k) (straight (act_steps d (act.Enter k) (straight f))) at) (block_log setting k inner rest here)) (sym joined) told
+  -- What a block's acts do is what the rules say of it, if its body's acts do what they say of the body, and what comes
+  -- behind does what they say behind it; what is known behind the block may be more.
+  pub block_follows : (P Q : Outer) (k : ℕ) (ann : Ann) → site_at t.sites k ≡ Some (site.Block ann) → (most : ℕ) → k ≡ most + 1 → Stable P most → (body : List Act) (inner : Rest → Rest)
+      → ((outside inside : Mode) (time : ℕ) (go : Onward) (rest : Rest) → Going (Beside (Inside Q k outside inside time)) 0 go rest → Going (Beside (Inside P k outside inside time)) 0 (acts_run d again body go) (inner rest))
+      → (go : Onward) (rest : Rest) → Going (Beside Q) 0 go rest → Going (Beside P) 0 (acts_run d again (block_acts k body) go) (block_log setting k inner rest)
+  block_follows P Q k ann standing most is stable body inner body_so go rest follows at here related outer =
+      let leave = act.Leave k (block_end_acts k) in
+      let leaving_run = act_run d again leave go in
+      let joined : acts_run d again (body ++ leave ∷ []) go ≡ acts_run d again body leaving_run = run_joined d again body (leave ∷ []) go in
+      let enter_so = (λ (time : ℕ). enter_follows P k ann standing most is stable time 0 (acts_run d again body leaving_run) (λ outside inside. inner (block_end k time outside inside rest))
+      (λ outside inside. body_so outside inside time leaving_run (block_end k time outside inside rest) (leave_follows Q k ann standing outside inside time go rest follows))) in
+      let look_so = look_follows p Sees fuel number t there again P k (Beside P) (IsLooked P k ann standing) (0 + 40) (act_steps d (act.Enter k) (straight (acts_run d again body leaving_run))) (block_inside setting k inner rest) (λ time left f acc h. (h, refl)) enter_so in
+      let told = look_so at (spent block_steps here) (record {
+        store = related.store;
+        mode = related.mode;
+        running = related.running;
+        stands = related.stands;
+        weights = (let few = related.weights in omega (arith, few));
+        within = related.within;
+        fits = related.fits;
+      }) outer in
+      subst (λ (f : Onward). Goes p Sees fuel at.state.store here.standing (act_steps d (act.Look k) (straight (act_steps d (act.Enter k) (straight f))) at) (block_log setting k inner rest here)) (sym joined) told

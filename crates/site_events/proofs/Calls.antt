@@ -30,7 +30,7 @@ use Rattle.walk_run.specs.PlainWrites.{sets}
 use Rattle.walk_run.specs.PlainSteps.{expr_steps, target_steps, found_steps}
 use Rattle.devices.specs.Reading.{reading_in}
 use Rattle.devices.specs.Journal.{looks, keeps, drops, issues, seals}
-use Rattle.task_attempts.specs.State.{Setting, Record, of_reading, of_block, of_copy, Here, Followed, Rest}
+use Rattle.task_attempts.specs.State.{Setting, Account, Record, of_reading, of_block, of_copy, Here, Followed, Rest}
 use Rattle.task_attempts.specs.Changes.{put, with_steps, with_store, with_record, with_looks, with_issue, spent}
 use Rattle.task_attempts.specs.Costs.{call_steps}
 use Rattle.task_attempts.specs.Along.{setting_of}
@@ -60,7 +60,7 @@ use Rattle.site_events.proofs.Records.{put_here, put_all}
 use Rattle.site_events.proofs.Places.{value_stands, stamp_stands, drop_stands, seal_stands, look_stands, issue_stands, homes_unseen, all_view, all_frame, all_stand}
 use Rattle.site_events.proofs.Stores.{writes_leave}
 use Rattle.site_events.proofs.Telling.{silent_goes, writes_go, shown_goes, end_goes, trap_goes}
-use Rattle.site_events.proofs.Acts.{Pair, Go, no_spare, sites_are, same_goes}
+use Rattle.site_events.proofs.Acts.{Pair, Go, put_fits, no_spare, sites_are, same_goes}
 
 -- ---- what is valued
 
@@ -166,28 +166,28 @@ module _ (p : Planned) (Sees : Store → Small → Type 0) (fuel number : ℕ) (
 
   module _ (P : Outer) (k : ℕ) where
     abbrev IsValued : Option Place → List ℕ → Known
-    IsValued at words f rs = P f.mode f.outer f.begun × (f.target ≡ Some at) × (f.args ≡ Some words)
+    IsValued at words f acc = P f.mode f.outer f.begun acc.furthest × (f.target ≡ Some at) × (f.args ≡ Some words)
 
     abbrev IsLooked : Option Place → List ℕ → (time : ℕ) → Known
-    IsLooked at words time f rs = P f.mode f.outer f.begun × (f.target ≡ Some at) × (f.args ≡ Some words) × (f.time ≡ Some time)
+    IsLooked at words time f acc = P f.mode f.outer f.begun acc.furthest × (f.target ≡ Some at) × (f.args ≡ Some words) × (f.time ≡ Some time)
 
     abbrev IsDropped : Option Place → List ℕ → (time : ℕ) → Known
-    IsDropped at words time f rs = IsLooked at words time f rs × (rs k ≡ None)
+    IsDropped at words time f acc = IsLooked at words time f acc × (acc.records k ≡ None)
 
     abbrev IsIssued : Option Place → (time word : ℕ) → Known
-    IsIssued at time word f rs = P f.mode f.outer f.begun × (f.target ≡ Some at) × (f.time ≡ Some time) × (f.word ≡ Some word) × (rs k ≡ None)
+    IsIssued at time word f acc = P f.mode f.outer f.begun acc.furthest × (f.target ≡ Some at) × (f.time ≡ Some time) × (f.word ≡ Some word) × (acc.records k ≡ None)
 
     abbrev IsKept : Option Place → (word : ℕ) → Known
-    IsKept at word f rs = P f.mode f.outer f.begun × (f.target ≡ Some at) × ((time : ℕ) × ((args : List ℕ) × (rs k ≡ Some (of_reading word time args))))
+    IsKept at word f acc = P f.mode f.outer f.begun acc.furthest × (f.target ≡ Some at) × ((time : ℕ) × ((args : List ℕ) × (acc.records k ≡ Some (of_reading word time args))))
 
     abbrev IsTaken : Option Place → (word : ℕ) → Known
-    IsTaken at word f rs = P f.mode f.outer f.begun × (f.target ≡ Some at) × (f.word ≡ Some word)
+    IsTaken at word f acc = P f.mode f.outer f.begun acc.furthest × (f.target ≡ Some at) × (f.word ≡ Some word)
 
     -- ---- its target and its arguments are valued
 
     module _ (target : Option CoreTarget) (q : ℕ) (args : List CoreExpr) (spare : ℕ) (go : Onward) (rest : Option Place → List ℕ → Rest) where
       -- the act's end, or a trap of its arguments
-      words_go : (at_place : Option Place) → ((words : List ℕ) → Going (IsValued at_place words) spare go (rest at_place words)) → (r : Result (List ℕ) Trap) (at : At) (here : Here) → Near spare at here → P at.state.frame.mode at.state.frame.outer at.state.frame.begun
+      words_go : (at_place : Option Place) → ((words : List ℕ) → Going (IsValued at_place words) spare go (rest at_place words)) → (r : Result (List ℕ) Trap) (at : At) (here : Here) → Near spare at here → P at.state.frame.mode at.state.frame.outer at.state.frame.begun here.standing.account.furthest
           → Goes p Sees fuel at.state.store here.standing (deed c (act.Value k) (unless_fails r (λ words. sets_frame (record at.state.frame { target = Some at_place; args = Some words }))) (straight go) at) (unless_trap r (rest at_place) here)
       words_go at_place follows (Err why) at here related outer = trap_goes p Sees fuel at.state.store (act.Value k) why at here related.stands (no_spare spare _ _ related.weights)
       words_go at_place follows (Ok words) at here related outer =
@@ -200,12 +200,13 @@ module _ (p : Planned) (Sees : Store → Small → Type 0) (fuel number : ℕ) (
             stands = related.stands;
             weights = related.weights;
             within = related.within;
+            fits = related.fits;
           }) (outer, refl, refl))
 
       abbrev Ends : (Option Place → List ℕ → Frame) → Store → Result (Option Place) Trap → Done
       Ends f store r = unless_fails r (λ at_place. unless_fails (all_values args store) (λ words. sets_frame (f at_place words)))
 
-      place_go : ((at_place : Option Place) → MayPut c at_place → (words : List ℕ) → Going (IsValued at_place words) spare go (rest at_place words)) → (at : At) (here : Here) → Near (spare + 20) at here → P at.state.frame.mode at.state.frame.outer at.state.frame.begun
+      place_go : ((at_place : Option Place) → MayPut c at_place → (words : List ℕ) → Going (IsValued at_place words) spare go (rest at_place words)) → (at : At) (here : Here) → Near (spare + 20) at here → P at.state.frame.mode at.state.frame.outer at.state.frame.begun here.standing.account.furthest
           → (r : Result (Option Place) Trap) → ((at_place : Option Place) → r ≡ Ok at_place → MayPut c at_place)
           → Goes p Sees fuel at.state.store here.standing
           (deed c (act.Value k) (Ends (λ at_place words. record at.state.frame { target = Some at_place; args = Some words }) at.state.store r) (straight go)
@@ -224,6 +225,7 @@ module _ (p : Planned) (Sees : Store → Small → Type 0) (fuel number : ℕ) (
             stands = related.stands;
             weights = (let few = related.weights in omega (arith, few));
             within = related.within;
+            fits = related.fits;
           }) outer
 
       may_put : (at : At) (here : Here) → Near (spare + 20) at here → AllByRecursion (TouchMay (NotConst c)) (map may_write (reading_arrays (pointing t) target)) → (at_place : Option Place) → target_found target at.state.store ≡ Ok at_place → MayPut c at_place
@@ -251,7 +253,7 @@ module _ (p : Planned) (Sees : Store → Small → Type 0) (fuel number : ℕ) (
 
     -- ---- a look
 
-    pub look_follows : (K : Known) (L : ℕ → Known) (spare : ℕ) (go : Onward) (rest : ℕ → Rest) → ((time : ℕ) (f : Frame) (rs : ℕ → Option Record) → K f rs → L time (record f { time = Some time }) rs)
+    pub look_follows : (K : Known) (L : ℕ → Known) (spare : ℕ) (go : Onward) (rest : ℕ → Rest) → ((time : ℕ) (left : List ℕ) (f : Frame) (acc : Account) → K f acc → L time (record f { time = Some time }) (record acc { looks = left }))
         → ((time : ℕ) → Going (L time) spare go (rest time)) → Going K (spare + 6) (act_steps d (act.Look k) (straight go)) (look k rest)
     look_follows K L spare go rest step follows at here related known =
         let time = next_look here.standing.account.looks in
@@ -273,11 +275,12 @@ module _ (p : Planned) (Sees : Store → Small → Type 0) (fuel number : ℕ) (
           stands = stands;
           weights = (let few = related.weights in omega (arith, few));
           within = related.within;
-        }) (subst (λ x. L x frame here.standing.account.records) same_time (step time' at.state.frame here.standing.account.records known))))
+          fits = related.fits;
+        }) (subst (λ x. L x frame here'.standing.account) same_time (step time' (drop 1 here.standing.account.looks) at.state.frame here.standing.account known))))
 
     -- ---- a drop, whatever is known that a drop leaves
 
-    pub drop_follows : (K L : Known) (j spare : ℕ) (go : Onward) (rest : Rest) → ((f : Frame) (rs : ℕ → Option Record) → K f rs → L f (put j None rs)) → Going L spare go rest
+    pub drop_follows : (K L : Known) (j spare : ℕ) (go : Onward) (rest : Rest) → ((f : Frame) (acc : Account) → K f acc → L f (record acc { records = put j None acc.records })) → Going L spare go rest
         → Going K (spare + 4) (act_steps d (act.Drop j) (straight go)) (drop_one j rest)
     drop_follows K L j spare go rest step follows at here related known =
         let begun : At = record at { weights = at.weights + 4 } in
@@ -291,13 +294,14 @@ module _ (p : Planned) (Sees : Store → Small → Type 0) (fuel number : ℕ) (
           stands = stands;
           weights = (let few = related.weights in omega (arith, few));
           within = related.within;
+          fits = related.fits;
         } in
         shown_goes p Sees fuel (act.Drop j) (Some (puts_flag j 0)) (drops j) (act_end c (act.Drop j) same go) begun here.standing (logged (drops j) None here') (rest here')
         (record { event = refl; weights = (let few = related.weights in omega (arith, few)); committed = refl; stands = stands; leads = tt })
-        (same_goes p Sees fuel number t there again L spare (act.Drop j) go rest follows (with_state s begun) here' later (step at.state.frame here.standing.account.records known))
+        (same_goes p Sees fuel number t there again L spare (act.Drop j) go rest follows (with_state s begun) here' later (step at.state.frame here.standing.account known))
 
     -- drops one after another
-    pub drops_follow : (K : Known) → ((j : ℕ) (f : Frame) (rs : ℕ → Option Record) → K f rs → K f (put j None rs)) → (js : List ℕ) (acts : List Act) (spare : ℕ) (go : Onward) (rest : Rest) → Going K spare (acts_run d again acts go) rest
+    pub drops_follow : (K : Known) → ((j : ℕ) (f : Frame) (acc : Account) → K f acc → K f (record acc { records = put j None acc.records })) → (js : List ℕ) (acts : List Act) (spare : ℕ) (go : Onward) (rest : Rest) → Going K spare (acts_run d again acts go) rest
         → Going K (spare + 4 * length js) (acts_run d again (map act.Drop js ++ acts) go) (drop_all js rest)
     drops_follow K step [] acts spare go rest follows = let e0 : spare ≡ spare + 4 * 0 = omega arith in subst (λ n. Going K n (acts_run d again acts go) rest) e0 follows
     drops_follow K step (j ∷ js) acts spare go rest follows =
@@ -330,6 +334,7 @@ module _ (p : Planned) (Sees : Store → Small → Type 0) (fuel number : ℕ) (
           stands = stands;
           weights = (let few = related.weights in omega (arith, few));
           within = related.within;
+          fits = related.fits;
         }) (known.0.0, known.0.1, known.0.3, ap Some same_word, known.1))) in
         let with_words = subst (λ (o : Option (List ℕ)). Goes p Sees fuel at.state.store here.standing (deed c (act.Issue k) (have o (Issues n at)) (straight go) begun) (issue setting k n words rest here)) (sym known.0.2) told in
         subst (λ (o : Option CoreStmt). Goes p Sees fuel at.state.store here.standing (deed c (act.Issue k) (issue_done setting o k at.state) (straight go) begun) (issue setting k n words rest here)) (sym found) with_words
@@ -342,7 +347,7 @@ module _ (p : Planned) (Sees : Store → Small → Type 0) (fuel number : ℕ) (
     -- ---- the seal of a call
 
     pub seal_follows : (ann : Ann) (at_place : Option Place) (words : List ℕ) (time word spare : ℕ) (go : Onward) (rest : Rest) → site_at t.sites k ≡ Some (site.Io ann)
-        → Going (λ f rs. P f.mode f.outer f.begun × (f.target ≡ Some at_place) × (f.word ≡ Some word)) spare go rest
+        → Going (λ f acc. P f.mode f.outer f.begun acc.furthest × (f.target ≡ Some at_place) × (f.word ≡ Some word)) spare go rest
         → Going (IsIssued at_place time word) (spare + 8) (act_steps d (act.Seal k) (straight go)) (seal k (of_reading word time words) rest)
     seal_follows ann at_place words time word spare go rest standing follows at here related known =
         let begun : At = record at { weights = at.weights + 8 } in
@@ -355,7 +360,7 @@ module _ (p : Planned) (Sees : Store → Small → Type 0) (fuel number : ℕ) (
         let stands2 = stamp_stands c s1 here stands1 k time known.4 in
         let says : HasReading (view s2) k word time = record { value = put_here k word s0.cells.value; stamp = put_here k time s0.cells.stamp } in
         let place : site_at (sites_of c s0.task) k ≡ Some (site.Io ann) = ap (λ sites. site_at sites k) (sites_are p Sees fuel number t there again (spare + 8) at here related) ∙ standing in
-        let stands3 = seal_stands c s2 here stands2 k (of_reading word time words) (subst (Says (view s2) (kept_from (sites_of c s0.task) k) k (of_reading word time words)) (sym place) says) in
+        let stands3 = seal_stands c s2 here stands2 k (of_reading word time words) (λ sort to from kept is. absurd (cc is)) (subst (Says (view s2) (kept_from (sites_of c s0.task) k) k (of_reading word time words)) (sym place) says) in
         let later : Near spare (with_state s3 begun) here' = record {
           store = related.store;
           mode = related.mode;
@@ -363,12 +368,13 @@ module _ (p : Planned) (Sees : Store → Small → Type 0) (fuel number : ℕ) (
           stands = stands3;
           weights = (let few = related.weights in omega (arith, few));
           within = related.within;
+          fits = related.fits;
         } in
         let told = silent_goes p Sees fuel (act.Seal k) (puts_value k word) (small c (act.Seal k) (silent (puts_stamp k time)) (small c (act.Seal k) (writing (puts_flag k s0.epoch) (seals k)) (act_end c (act.Seal k) same go))) begun here.standing _ stands1
         (silent_goes p Sees fuel (act.Seal k) (puts_stamp k time) (small c (act.Seal k) (writing (puts_flag k s0.epoch) (seals k)) (act_end c (act.Seal k) same go)) (with_state s1 begun) here.standing _ stands2
         (shown_goes p Sees fuel (act.Seal k) (Some (puts_flag k s0.epoch)) (seals k) (act_end c (act.Seal k) same go) (with_state s2 begun) here.standing (logged (seals k) None here') (rest here')
         (record { event = refl; weights = (let few = related.weights in omega (arith, few)); committed = refl; stands = stands3; leads = tt })
-        (same_goes p Sees fuel number t there again (λ f rs. P f.mode f.outer f.begun × (f.target ≡ Some at_place) × (f.word ≡ Some word)) spare (act.Seal k) go rest follows (with_state s3 begun) here' later (known.0, known.1, known.3)))) in
+        (same_goes p Sees fuel number t there again (λ f acc. P f.mode f.outer f.begun acc.furthest × (f.target ≡ Some at_place) × (f.word ≡ Some word)) spare (act.Seal k) go rest follows (with_state s3 begun) here' later (known.0, known.1, known.3)))) in
         let log = seal k (of_reading word time words) rest here in
         let with_time = subst (λ (o : Option ℕ). Goes p Sees fuel s0.store here.standing (deed c (act.Seal k) (have o (Sealed s0 word)) (straight go) begun) log) (sym known.2) told in
         let with_word = subst (λ (o : Option ℕ). Goes p Sees fuel s0.store here.standing (deed c (act.Seal k) (have o (λ w. have s0.frame.time (Sealed s0 w))) (straight go) begun) log) (sym known.3) with_time in
@@ -400,6 +406,7 @@ module _ (p : Planned) (Sees : Store → Small → Type 0) (fuel number : ℕ) (
           stands = related.stands;
           weights = (let few = related.weights in omega (arith, few));
           within = related.within;
+          fits = related.fits;
         }) (known.0, known.1, ap Some same_word)))
 
     -- ---- the word goes to the target
@@ -416,9 +423,10 @@ module _ (p : Planned) (Sees : Store → Small → Type 0) (fuel number : ℕ) (
           stands = related.stands;
           weights = (let few = related.weights in omega (arith, few));
           within = related.within;
+          fits = related.fits;
         }) known.0 known.2)
       where
-        by_place : (o : Option Place) → MayPut c o → (at : At) (here : Here) → Near spare at here → P at.state.frame.mode at.state.frame.outer at.state.frame.begun → at.state.frame.word ≡ Some word
+        by_place : (o : Option Place) → MayPut c o → (at : At) (here : Here) → Near spare at here → P at.state.frame.mode at.state.frame.outer at.state.frame.begun here.standing.account.furthest → at.state.frame.word ≡ Some word
             → Goes p Sees fuel at.state.store here.standing (deed c (act.Write k) (write_done c o at.state) (straight go) at) (rest (put_into o word here))
         by_place None may at here related outer known = same_goes p Sees fuel number t there again (Beside P) spare (act.Write k) go rest follows at here related outer
         by_place (Some a) may at here related outer known =
@@ -440,7 +448,8 @@ module _ (p : Planned) (Sees : Store → Small → Type 0) (fuel number : ℕ) (
               stands = stands;
               weights = related.weights;
               within = related.within;
-            }) (subst (λ f. P f.mode f.outer f.begun) (sym frame) outer))))
+              fits = put_fits c a word here.store related.fits;
+            }) (subst (λ f. P f.mode f.outer f.begun here.standing.account.furthest) (sym frame) outer))))
 
     -- what needs less may have more to spare
     spares : (K : Known) (few many : ℕ) → few ≤ many → (go : Onward) (rest : Rest) → Going K few go rest → Going K many go rest
@@ -451,6 +460,7 @@ module _ (p : Planned) (Sees : Store → Small → Type 0) (fuel number : ℕ) (
       stands = related.stands;
       weights = (let low = related.weights in omega (arith, low, less));
       within = related.within;
+      fits = related.fits;
     }) known
 
     -- ---- the choice
@@ -458,7 +468,7 @@ module _ (p : Planned) (Sees : Store → Small → Type 0) (fuel number : ℕ) (
     choice_goes : (ann : Ann) (q : ℕ) (at_place : Option Place) (words : List ℕ) (time spare : ℕ) (a : Act) (issue_way keep_way go : Onward) (rest : ℕ → Rest)
         → Going (IsLooked at_place words time) spare issue_way (issue_anew setting k q words time rest)
         → ((word : ℕ) (followed : Option Followed) → Going (IsKept at_place word) spare keep_way (λ here. logged (keeps k word) followed here ∷ rest word here))
-        → (at : At) (here : Here) → Near spare at here → (r : Option Record) → here.standing.account.records k ≡ r → IsLooked at_place words time at.state.frame here.standing.account.records
+        → (at : At) (here : Here) → Near spare at here → (r : Option Record) → here.standing.account.records k ≡ r → IsLooked at_place words time at.state.frame here.standing.account
         → (ch : Choice) → choice here.mode ann (kept_in r) time ≡ ch
         → Goes p Sees fuel at.state.store here.standing (deed c a (does [] same (by_choice ch)) (by_way issue_way keep_way go go) at) (Calls.by_choice setting k q (issued_with r) words time rest ch here)
     choice_goes ann q at_place words time spare a issue_way keep_way go rest issues_so keeps_so at here related r is known Issue chosen =
@@ -488,6 +498,7 @@ module _ (p : Planned) (Sees : Store → Small → Type 0) (fuel number : ℕ) (
           stands = related.stands;
           weights = (let few = related.weights in omega (arith, few));
           within = related.within;
+          fits = related.fits;
         }) r refl known (choice here.mode ann (kept_in r) time) refl in
         let told' = subst (λ x. Goes p Sees fuel at.state.store here.standing (deed c a (does [] same (by_choice (choice here.mode ann (kept_in r) time))) ways begun) (Calls.by_choice setting k q (issued_with r) words time rest (choice here.mode x (kept_in r) time) here)) (sym (ap annotation_of standing)) told in
         let with_kept = subst (λ o. Goes p Sees fuel at.state.store here.standing (deed c a (does [] same (by_choice (choice here.mode ann o time))) ways begun) log) (sym held) told' in
@@ -507,10 +518,10 @@ module _ (p : Planned) (Sees : Store → Small → Type 0) (fuel number : ℕ) (
         let js = dependents t k in
         let seals_so = (λ (word : ℕ). seal_follows ann at_place words time word 6 go (rest word) standing (follows word)) in
         let issues_so = issue_follows q target args at_place words time (6 + 8) (act_steps d (act.Seal k) (straight go)) (λ word. seal k (of_reading word time words) (rest word)) found seals_so in
-        let stays : (j : ℕ) (f : Frame) (rs : ℕ → Option Record) → IsDropped at_place words time f rs → IsDropped at_place words time f (put j None rs) = (λ j f rs h. (h.0, put_all (λ i o. i ≡ k → o ≡ None) j None rs (λ is. refl) (λ i apart is. ap rs is ∙ h.1) k refl)) in
+        let stays : (j : ℕ) (f : Frame) (acc : Account) → IsDropped at_place words time f acc → IsDropped at_place words time f (record acc { records = put j None acc.records }) = (λ j f acc h. (h.0, put_all (λ i o. i ≡ k → o ≡ None) j None acc.records (λ is. refl) (λ i apart is. ap acc.records is ∙ h.1) k refl)) in
         let drops_so = drops_follow (IsDropped at_place words time) stays js (act.Issue k ∷ act.Seal k ∷ []) (6 + 8 + 12) go (issue setting k (number_of setting q) words (λ word. seal k (of_reading word time words) (rest word))) issues_so in
         let own = drop_follows (IsLooked at_place words time) (IsDropped at_place words time) k (6 + 8 + 12 + 4 * length js) (acts_run d again (map act.Drop js ++ act.Issue k ∷ act.Seal k ∷ []) go)
-        (drop_all js (issue setting k (number_of setting q) words (λ word. seal k (of_reading word time words) (rest word)))) (λ f rs h. (h, put_here k None rs)) drops_so in
+        (drop_all js (issue setting k (number_of setting q) words (λ word. seal k (of_reading word time words) (rest word)))) (λ f acc h. (h, put_here k None acc.records)) drops_so in
         let e0 : 6 + 8 + 12 + 4 * length js + 4 ≡ 30 + 4 * length js = omega arith in
         subst (λ n. Going (IsLooked at_place words time) n (acts_run d again (issue_acts a k) go) (issue_anew setting k (number_of setting q) words time rest)) e0 own
 
@@ -531,7 +542,7 @@ module _ (p : Planned) (Sees : Store → Small → Type 0) (fuel number : ℕ) (
         let choose_so = (λ (at_place : Option Place) (may : MayPut c at_place) (words : List ℕ) (time : ℕ).
         choose_follows ann n at_place words time (30 + 4 * js) (issue_acts a k) (act.Take k ∷ []) writes (behind at_place) standing (issues_so at_place may words time) (keeps_so at_place may words time)) in
         let look_so = (λ (at_place : Option Place) (may : MayPut c at_place) (words : List ℕ). look_follows (IsValued at_place words) (IsLooked at_place words) (30 + 4 * js + 30) (act_run d again (act.Choose k (issue_acts a k) (act.Take k ∷ [])) writes)
-        (call_inside setting k n at_place words rest) (λ time f rs h. (h.0, h.1, h.2, refl)) (choose_so at_place may words)) in
+        (call_inside setting k n at_place words rest) (λ time left f acc h. (h.0, h.1, h.2, refl)) (choose_so at_place may words)) in
         value_follows target q args (30 + 4 * js + 30 + 6) (acts_run d again (act.Look k ∷ act.Choose k (issue_acts a k) (act.Take k ∷ []) ∷ act.Write k ∷ []) go)
         (λ at_place words. look k (call_inside setting k n at_place words rest)) found all look_so at (spent (call_steps t k) here) (record {
           store = related.store;
@@ -540,4 +551,5 @@ module _ (p : Planned) (Sees : Store → Small → Type 0) (fuel number : ℕ) (
           stands = related.stands;
           weights = (let few = related.weights in omega (arith, few));
           within = related.within;
+          fits = related.fits;
         }) outer

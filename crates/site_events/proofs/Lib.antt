@@ -4,7 +4,10 @@ mod Blocks
 mod Bodies
 mod Boots
 mod Calls
+mod Copies
+mod CopyWords
 mod Cuts
+mod KeptWords
 mod Places
 mod Records
 mod Runs

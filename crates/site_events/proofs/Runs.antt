@@ -1,9 +1,11 @@
 -- The boots of the plan of a program with calls and blocks, one behind another: each tells what the rules say, from where
 -- the one before left it.
-use Rattle.std.proofs.Common.{◌≡◌, ◌∙◌, ℕ, suc, ◌+◌, ◌≤◌, List, [], ◌∷◌, ◌++◌, length, map, take, refl, sym, ap, subst, arith}
+use Rattle.std.proofs.Common.{◌≡◌, ◌∙◌, ℕ, suc, ◌+◌, ◌≤◌, List, [], ◌∷◌, ◌++◌, length, map, take, refl, sym, ap, subst, arith, zero, slice_get, slice_index_or}
 use Rattle.std.specs.Prelude.{⊤, flat_map}
 use Rattle.std.proofs.lemmas.Bool.{ne_eqb}
+use Rattle.task_ast.specs.declared.core_form.Array.{Array}
 use Rattle.task_ast.specs.declared.core_form.Core.{Core}
+use Rattle.task_ast.specs.CoreSites.{room}
 use Rattle.task_ast.specs.WellFormed.{IsWellFormed}
 use Rattle.walk_run.specs.Store.{declared_store}
 use Rattle.devices.specs.declared.world.World.{World}
@@ -21,14 +23,19 @@ use Rattle.plan_restore.specs.Kept.{planned, AreKept, IsLeft, BootsKeep}
 use Rattle.site_events.specs.Records.{view}
 use Rattle.site_events.specs.Standing.{StandsAt}
 use Rattle.site_events.specs.Telling.{Tells}
-use Rattle.site_events.specs.NoCopies.{HasNoCopies}
 use Rattle.site_events.proofs.Bodies.{BareLog}
 use Rattle.site_events.proofs.Boots.{boot_told}
 use Rattle.site_events.proofs.Cuts.{events_told, weights_told, ends_told, few_shown, ended_told}
 use Rattle.site_events.proofs.States.{states_told}
 use Rattle.site_events.proofs.Traps.{LastIsWalked, traps_walked}
 
-module _ (c : Core) (world : World) (scheme : Scheme) (bare : BareLog (rules_of c world)) (leaves : (s : State) → IsLeft c s (failed c s)) (w : IsWellFormed c) (none : HasNoCopies c) where
+-- declared words
+declared_fits : (arrays : List Array) (a : ℕ) → length (slice_index_or (map (λ x. x.first) arrays) a []) ≡ room (slice_get arrays a)
+declared_fits [] a = refl
+declared_fits (x ∷ arrays) zero = refl
+declared_fits (x ∷ arrays) (suc a) = declared_fits arrays a
+
+module _ (c : Core) (world : World) (scheme : Scheme) (bare : BareLog (rules_of c world)) (leaves : (s : State) → IsLeft c s (failed c s)) (w : IsWellFormed c) where
   abbrev p : Planned
   p = planned c world scheme
 
@@ -53,7 +60,7 @@ module _ (c : Core) (world : World) (scheme : Scheme) (bare : BareLog (rules_of 
   all_told (n ∷ numbers) s st stands keeps =
       let run = cut_run p n s in
       let k = count n s in
-      let told = boot_told c world scheme bare w none n s st stands keeps.0 in
+      let told = boot_told c world scheme bare w n s st stands keeps.0 in
       let ends = ends_told p n st.committed s.store st (boot_run p n s) s (boot_log rules (suc n) st) refl stands told in
       let fewer : k ≤ suc n = let less = few n s in omega (arith, less) in
       let cut : Boots.after st (take k (boot_log rules (suc n) st)) ≡ Boots.left_by rules k st = ap (Boots.after st) (longer_boot rules k (suc n) st fewer) in
@@ -111,6 +118,7 @@ module _ (c : Core) (world : World) (scheme : Scheme) (bare : BareLog (rules_of 
     looks = refl;
     issued = refl;
     records = λ k. ne_eqb 0 1 (λ same. cc same);
+    good = record { fits = declared_fits c.arrays; copies = λ k sort to from words is. absurd (cc is) };
     locked = λ r same. absurd (cc same);
     numbered = record { flags = λ k. omega arith; locks = λ r. omega arith; some = omega arith };
   }

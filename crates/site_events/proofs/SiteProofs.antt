@@ -1,28 +1,32 @@
 -- What is claimed of the acts of sites holds.
-use Rattle.std.proofs.Common.{◌≡◌, ◌∙◌, ℕ, ◌+◌, ◌≤◌, Bool, true, false, ◌==◌, List, [], ◌∷◌, refl, sym, subst}
-use Rattle.std.specs.Prelude.{Option, Some, None}
+use Rattle.std.proofs.Common.{◌≡◌, ◌∙◌, ℕ, ◌+◌, ◌≤◌, Bool, true, false, ◌==◌, List, [], ◌∷◌, refl, sym, subst, ap, slice_get, arith}
+use Rattle.std.specs.Prelude.{Option, Some, None, max, sum_by}
 use Rattle.std.specs.List.{AllByRecursion}
 use Rattle.task_ast.specs.declared.core_form.CoreStmt.TheVariants as stmt
 use Rattle.task_ast.specs.declared.core_form.Core.{Core}
 use Rattle.task_ast.specs.declared.core_form.Site.{Site}
+use Rattle.task_ast.specs.CoreSites.{room, greatest}
 use Rattle.task_ast.specs.Pointing.{pointing}
-use Rattle.region_split.specs.Regions.{touches}
+use Rattle.io_annot.specs.declared.choice.Mode.{Mode}
+use Rattle.region_split.specs.Regions.{touches, region_of}
 use Rattle.task_attempts.specs.State.{Record}
 use Rattle.task_attempts.specs.Changes.{put}
 use Rattle.task_attempts.specs.Calls.{site_at}
 use Rattle.run_plan.specs.Cells.{State, CellWrite, puts_home, puts_aside, puts_lock, puts_flag, puts_value, puts_stamp, puts_class, puts_to, puts_from, puts_length, puts_kept, puts_state, turned, after_write}
-use Rattle.run_plan.specs.Runs.{Planned}
+use Rattle.run_plan.specs.Runs.{Planned, at_task}
 use Rattle.plan_restore.proofs.Lists.{all_parts}
 use Rattle.plan_restore.proofs.Puts.{NotConst}
 use Rattle.plan_restore.proofs.Solid.{body_solid}
 use Rattle.plan_restore.proofs.Writing.{TouchMay}
 use Rattle.site_events.specs.Records.{view, Says, kept_from, AreRecords}
 use Rattle.site_events.specs.Standing.{IsNumbered}
-use Rattle.site_events.specs.SiteLaws.{IsCellOf, Anything, Noted, AreNoted, CallsDo, BlocksDo}
+use Rattle.site_events.specs.SiteLaws.{IsCellOf, Anything, Noted, AreNoted, AreReached, CallsDo, BlocksDo, CopiesDo}
 use Rattle.site_events.specs.Follows.{Stable}
 use Rattle.site_events.proofs.Records.{value_keeps, stamp_keeps, class_keeps, to_keeps, from_keeps, length_keeps, drop_keeps, seal_keeps, commit_keeps}
 use Rattle.site_events.proofs.Calls.{call_follows}
 use Rattle.site_events.proofs.Blocks.{block_follows}
+use Rattle.site_events.proofs.Bodies.{region_there_is}
+use Rattle.site_events.proofs.Copies.{copy_follows}
 
 module _ (c : Core) (sites : List Site) (rs : ℕ → Option Record) (s : State) (k : ℕ) where
   -- the record of a site, by an equal number
@@ -64,10 +68,24 @@ calls_do p fuel number t again blocks k ann target q args go rest call follows =
     (all_parts (TouchMay (NotConst p.rules.core)) (touches (pointing t) (stmt.Io k target q args)) [] solid).0 follows
 
 noted_stable : (blocks : List Noted) (k : ℕ) → AllByRecursion (λ n. n.site ≤ k) blocks → Stable (AreNoted blocks) k
-noted_stable [] k few m o u b v same same' h = tt
-noted_stable (n ∷ blocks) k few m o u b v same same' h =
-    (sym (same n.site few.0) ∙ h.0, sym (same' n.site few.0) ∙ h.1, noted_stable blocks k few.1 m o u b v same same' h.2)
+noted_stable [] k few m o u b v n same same' h = tt
+noted_stable (x ∷ blocks) k few m o u b v n same same' h =
+    (sym (same x.site few.0) ∙ h.0, sym (same' x.site few.0) ∙ h.1, noted_stable blocks k few.1 m o u b v n same same' h.2)
 
 pub blocks_do : (p : Planned) → BlocksDo p
 blocks_do p fuel number t again blocks k ann body inner go rest there standing few body_so follows =
-    block_follows p Anything fuel number t there again (AreNoted blocks) (k + 1) ann standing k refl (noted_stable blocks k few) body inner body_so go rest follows
+    block_follows p Anything fuel number t there again (AreNoted blocks) (AreNoted blocks) (k + 1) ann standing k refl (noted_stable blocks k few) body inner body_so go rest follows
+
+-- blocks are noted whatever regions were reached
+noted_anywhere : (blocks : List Noted) (m : Option Mode) (o : ℕ → Option Mode) (b : ℕ → Option ℕ) (n x : ℕ) → AreNoted blocks m o b n → AreNoted blocks m o b x
+noted_anywhere [] m o b n x h = tt
+noted_anywhere (y ∷ blocks) m o b n x h = (h.0, h.1, noted_anywhere blocks m o b n x h.2)
+
+pub copies_do : (p : Planned) → CopiesDo p
+copies_do p fuel number t again blocks k to from words go rest copy follows =
+    let c = p.rules.core in
+    let solid = body_solid c t (stmt.Copy k to from words ∷ []) 1 false [] (copy.formed, tt) in
+    let arrays = (all_parts (TouchMay (NotConst c)) (touches (pointing t) (stmt.Copy k to from words)) [] solid).0.1 in
+    let words_there = ap (λ (xs : List ℕ). sum_by (λ x. room (slice_get c.arrays x)) xs) (region_there_is c t (at_task p.plan.firsts number []) (region_of t k) copy.firsts copy.region) in
+    copy_follows p Anything fuel number t copy.there again k (greatest c.arrays (pointing t) to from) copy.standing (AreReached blocks (region_of t k)) (AreReached blocks (region_of t k + 1)) (region_of t k)
+    (λ m o b n h. (noted_anywhere blocks m o b n (max n (region_of t k)) h.0, omega arith)) go rest follows to from words arrays refl copy.found refl words_there (λ m o b n h. h.1)

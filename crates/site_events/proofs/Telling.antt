@@ -1,15 +1,16 @@
 -- Small steps of acts tell a log, if what comes behind them does.
 use Rattle.std.proofs.Common.{◌≡◌, inl, inr, ℕ, zero, suc, ◌≤◌, List, [], ◌∷◌, ◌++◌, map, take, refl, subst, arith}
-use Rattle.std.specs.Prelude.{Option, Some}
+use Rattle.std.specs.Prelude.{Option, Some, None}
 use Rattle.walk_run.specs.declared.trap.Trap.{Trap}
 use Rattle.walk_run.specs.Trap.{code_of}
 use Rattle.walk_run.specs.Store.{Store}
-use Rattle.devices.specs.Journal.{JournalEvent, traps}
+use Rattle.devices.specs.Journal as journal
+use Rattle.devices.specs.Journal.{JournalEvent, copies, traps}
 use Rattle.task_attempts.specs.State.{Standing, Here, Logged, Log}
 use Rattle.task_attempts.specs.Told.{trap}
 use Rattle.run_plan.specs.declared.act.Act.{Act}
 use Rattle.run_plan.specs.Cells.{State, CellWrite, after_write}
-use Rattle.run_plan.specs.Small.{Atom, silent, showing, ending, after_written, after_shown}
+use Rattle.run_plan.specs.Small.{Atom, silent, showing, ending, shown_last, after_written, after_shown}
 use Rattle.run_plan.specs.Runs.{Small, Smalls, At, Onward, Planned, with_state, nothing, small, small_steps, act_end}
 use Rattle.run_plan.specs.Safe.{all_written}
 use Rattle.plan_restore.specs.Kept.{committed_by}
@@ -75,6 +76,18 @@ module _ (p : Planned) (Sees : Store → Small → Type 0) (fuel : ℕ) where
       → Meets p e (committed_by (Some e) at.state.store st.committed) (record { act = a; atom = record { write = w; event = Some e }; after = shown_after w e at.state; weights = at.weights }) l
       → Behind l.after (shown_after w e at.state) go at log → GoesOn at.state.store st (small p.rules.core a (record { write = w; event = Some e }) go at) (l ∷ log)
   shown_goes a w e go at st l log meets goes m low = first_goes a w e go at st l log meets goes m (omega (arith, low))
+
+  -- writes, the last of which shows a copy
+  pub last_goes : (a : Act) (writes : List CellWrite) (k : ℕ) (from to : journal.Place) (n : ℕ) (go : Onward) (at : At) (st : Standing) (l : Logged) (log : Log) → AllStand st writes at.state
+      → copies k from to n ≡ l.event → at.weights ≤ l.steps p.plan.scheme → st.committed ≡ l.after.committed → StandsAt p.rules.core (view (all_written p.rules.core writes at.state)) l.after
+      → Behind l.after (all_written p.rules.core writes at.state) go at log → GoesOn at.state.store st (small_steps p.rules.core a (shown_last writes (copies k from to n)) go at) (l ∷ log)
+  last_goes a [] k from to n go at st l log stand event few committed stands goes =
+      shown_goes a None (copies k from to n) go at st l log (record { event = event; weights = few; committed = committed; stands = stands; leads = tt }) goes
+  last_goes a (w ∷ []) k from to n go at st l log stand event few committed stands goes =
+      shown_goes a (Some w) (copies k from to n) go at st l log (record { event = event; weights = few; committed = committed; stands = stands; leads = tt }) goes
+  last_goes a (w ∷ v ∷ writes) k from to n go at st l log stand event few committed stands goes =
+      silent_goes a w (small_steps p.rules.core a (shown_last (v ∷ writes) (copies k from to n)) go) at st (l ∷ log) stand.0
+      (last_goes a (v ∷ writes) k from to n go (with_state (after_write p.rules.core.arrays w at.state) at) st l log stand.1 event few committed stands goes)
 
   -- an act's end
   pub end_goes : (a : Act) (change : State → State) (go : Onward) (at : At) (left : Store) (st : Standing) (log : Log) → StandsAt p.rules.core (view (change at.state)) st

@@ -6,12 +6,12 @@ use Rattle.io_annot.specs.declared.choice.Mode.{Mode}
 use Rattle.io_depend.specs.Sets.{has}
 use Rattle.walk_run.specs.declared.place.Place.{Place}
 use Rattle.walk_run.specs.Store.{Store, pointed}
-use Rattle.task_attempts.specs.State.{Record, Standing, Here, Log, Rest}
+use Rattle.task_attempts.specs.State.{Account, Standing, Here, Log, Rest}
 use Rattle.run_plan.specs.Cells.{Frame}
 use Rattle.run_plan.specs.Runs.{Small, Smalls, At, Onward, Planned}
 use Rattle.plan_restore.specs.Kept.{committed_by}
 use Rattle.site_events.specs.Records.{view}
-use Rattle.site_events.specs.Standing.{StandsAt}
+use Rattle.site_events.specs.Standing.{FitsIn, StandsAt}
 use Rattle.site_events.specs.Telling.{Tells}
 
 -- each pointer points to nothing or to an array to which it may point
@@ -25,25 +25,26 @@ AreSeen Sees committed left (x ∷ xs) =
     let now = committed_by x.atom.event left committed in
     Sees now x × AreSeen Sees now x.after.store xs
 
--- what is known of a place besides: of what lives between acts, and of the records
+-- what is known of a place besides: of what lives between acts, and of the account
 abbrev pub Known : Type 1
-Known = Frame → (ℕ → Option Record) → Type 0
+Known = Frame → Account → Type 0
 
--- what is known of the mode and of the blocks around: the mode outside each, and the time of its beginning
+-- what is known of the mode, of the blocks around, the mode outside each and the time of its beginning, and of the greatest
+-- region whose copy gave an event
 abbrev pub Outer : Type 1
-Outer = Option Mode → (ℕ → Option Mode) → (ℕ → Option ℕ) → Type 0
+Outer = Option Mode → (ℕ → Option Mode) → (ℕ → Option ℕ) → (furthest : ℕ) → Type 0
 
 -- that is all that is known between two statements
 abbrev pub Beside : Outer → Known
-Beside P f records = P f.mode f.outer f.begun
+Beside P f account = P f.mode f.outer f.begun account.furthest
 
 -- it speaks of the blocks up to a site alone
 abbrev pub Stable : Outer → (most : ℕ) → Type 0
-Stable P most = (m : Option Mode) (o u : ℕ → Option Mode) (b v : ℕ → Option ℕ) → ((j : ℕ) → j ≤ most → o j ≡ u j) → ((j : ℕ) → j ≤ most → b j ≡ v j) → P m o b → P m u v
+Stable P most = (m : Option Mode) (o u : ℕ → Option Mode) (b v : ℕ → Option ℕ) (n : ℕ) → ((j : ℕ) → j ≤ most → o j ≡ u j) → ((j : ℕ) → j ≤ most → b j ≡ v j) → P m o b n → P m u v n
 
 -- in the body of a block the mode is that inside, and the mode outside and the time of its beginning are noted
 abbrev pub Inside : Outer → (site : ℕ) → (outside inside : Mode) → (time : ℕ) → Outer
-Inside P k outside inside time m o b = (m ≡ Some inside) × (o k ≡ Some outside) × (b k ≡ Some time) × P (Some outside) o b
+Inside P k outside inside time m o b n = (m ≡ Some inside) × (o k ≡ Some outside) × (b k ≡ Some time) × P (Some outside) o b n
 
 module _ (p : Planned) (Sees : Store → Small → Type 0) (fuel : ℕ) where
   -- the first so many small steps tell a log, if what is known of small steps holds of them
@@ -64,8 +65,9 @@ module _ (p : Planned) (Sees : Store → Small → Type 0) (fuel : ℕ) where
       pub stands : StandsAt p.rules.core (view at.state) here.standing
       pub weights : at.weights + spare ≤ here.steps p.plan.scheme
       pub within : PointsWithin (pointing t) here.store
+      pub fits : FitsIn p.rules.core here.store
 
     -- what comes behind tells what the rules say, from any related places of which a claim holds
     abbrev pub Follows : Known → (spare : ℕ) → Onward → Rest → Type 0
     Follows K spare go rest =
-        (at : At) (here : Here) → Related spare at here → K at.state.frame here.standing.account.records → Goes at.state.store here.standing (go at) (rest here)
+        (at : At) (here : Here) → Related spare at here → K at.state.frame here.standing.account → Goes at.state.store here.standing (go at) (rest here)

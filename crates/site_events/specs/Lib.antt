@@ -1,5 +1,4 @@
 pub mod Follows
-pub mod NoCopies
 pub mod Records
 pub mod SiteLaws
 pub mod Standing

@@ -12,9 +12,8 @@ ghost use Rattle.run_plan.specs.Cells.{State, CellWrite, puts_flag, puts_state, 
 ghost use Rattle.run_plan.specs.Runs.{plan_run, started, event_weights, commit_states};
 ghost use Rattle.run_plan.specs.Sound.{shown, counts, TrapsAreWalked, AllWithin, GoesOn, IsSoundRun};
 ghost use Rattle.plan_restore.specs.Kept.{planned};
-ghost use Rattle.site_events.specs.NoCopies.{HasNoCopies};
 ghost use Rattle.site_events.specs.Records.{view, Says, kept_from, AreRecords};
-ghost use Rattle.site_events.specs.SiteLaws.{IsCellOf, CallsDo, BlocksDo};
+ghost use Rattle.site_events.specs.SiteLaws.{IsCellOf, CallsDo, BlocksDo, CopiesDo};
 ghost use Rattle.site_events.specs.Standing.{IsNumbered};
 
 use attempt_laws::{
@@ -68,11 +67,16 @@ pub fn the_acts_of_a_block_do_what_the_rules_say(c: &Core, world: &World, scheme
     ensures { BlocksDo (planned c.now world.now scheme) }
 {}
 
+/// The acts of a copy do what the rules say of it, cut behind whatever small step: it goes by its record, or by its class as
+/// it was valued; its words are kept and its record sealed; and its region is reached with its first event.
+pub fn the_acts_of_a_copy_do_what_the_rules_say(c: &Core, world: &World, scheme: Scheme)
+    ensures { CopiesDo (planned c.now world.now scheme) }
+{}
+
 /// The events of each boot are those that the rules expect, behind however many small steps each power failure comes and
 /// whatever the looks show.
-pub fn a_plan_without_copies_shows_what_the_rules_expect(c: &Core, world: &World, scheme: Scheme)
-    requires formed { IsWellFormed c.now }
-    requires bare { HasNoCopies c.now }
+pub fn a_plan_shows_what_the_rules_expect(c: &Core, world: &World, scheme: Scheme)
+    requires { IsWellFormed c.now }
     ensures { (numbers looks : List ℕ) → shown (plan_run (planned c.now world.now scheme) numbers looks)
         ≡ expect (rules_of c.now world.now) (counts (plan_run (planned c.now world.now scheme) numbers looks)) looks }
 {
@@ -83,9 +87,8 @@ pub fn a_plan_without_copies_shows_what_the_rules_expect(c: &Core, world: &World
 
 /// The weights of the acts that have begun in a boot up to each event are within the steps by which the event must have
 /// come.
-pub fn a_plan_without_copies_stays_within_the_steps(c: &Core, world: &World, scheme: Scheme)
-    requires formed { IsWellFormed c.now }
-    requires bare { HasNoCopies c.now }
+pub fn a_plan_stays_within_the_steps(c: &Core, world: &World, scheme: Scheme)
+    requires { IsWellFormed c.now }
     ensures { (numbers looks : List ℕ) → AllWithin (map event_weights (plan_run (planned c.now world.now scheme) numbers looks))
         (costs (rules_of c.now world.now) scheme (counts (plan_run (planned c.now world.now scheme) numbers looks)) looks) }
 {
@@ -96,9 +99,8 @@ pub fn a_plan_without_copies_stays_within_the_steps(c: &Core, world: &World, sch
 
 /// A run goes on: each boot does its small steps, unless no task is next before, or it traps. So no act misses a mode, a time,
 /// a place or a word.
-pub fn a_plan_without_copies_goes_on(c: &Core, world: &World, scheme: Scheme)
-    requires formed { IsWellFormed c.now }
-    requires bare { HasNoCopies c.now }
+pub fn a_plan_goes_on(c: &Core, world: &World, scheme: Scheme)
+    requires { IsWellFormed c.now }
     ensures { (numbers looks : List ℕ) → GoesOn (planned c.now world.now scheme) numbers (started (planned c.now world.now scheme) looks) }
 {
     a_boot_finds_the_committed_store(c, world, scheme);
@@ -108,9 +110,8 @@ pub fn a_plan_without_copies_goes_on(c: &Core, world: &World, scheme: Scheme)
 
 /// What is committed is what the unbroken run does that is fed the retained readings: behind the i-th commit the next task
 /// and the nonvolatile words are those behind its i-th task.
-pub fn what_a_plan_without_copies_commits_is_walked(c: &Core, world: &World, scheme: Scheme)
-    requires formed { IsWellFormed c.now }
-    requires bare { HasNoCopies c.now }
+pub fn what_a_plan_commits_is_walked(c: &Core, world: &World, scheme: Scheme)
+    requires { IsWellFormed c.now }
     ensures { (numbers looks : List ℕ) → AreWalked c.now (shown (plan_run (planned c.now world.now scheme) numbers looks))
         (flat_map (commit_states (planned c.now world.now scheme)) (plan_run (planned c.now world.now scheme) numbers looks)) }
 {
@@ -122,9 +123,8 @@ pub fn what_a_plan_without_copies_commits_is_walked(c: &Core, world: &World, sch
 
 /// A trap of a boot is that of the unbroken run that is fed the readings retained so far, and those of the attempt that
 /// traps.
-pub fn a_trap_of_a_plan_without_copies_is_walked(c: &Core, world: &World, scheme: Scheme)
-    requires formed { IsWellFormed c.now }
-    requires bare { HasNoCopies c.now }
+pub fn a_trap_of_a_plan_is_walked(c: &Core, world: &World, scheme: Scheme)
+    requires { IsWellFormed c.now }
     ensures { (numbers looks : List ℕ) → TrapsAreWalked c.now [] (shown (plan_run (planned c.now world.now scheme) numbers looks)) }
 {
     a_boot_finds_the_committed_store(c, world, scheme);
@@ -133,17 +133,16 @@ pub fn a_trap_of_a_plan_without_copies_is_walked(c: &Core, world: &World, scheme
     a_trap_is_that_of_the_unbroken_run(c, world);
 }
 
-/// All of it: every run of the plan of a program whose sites are calls and blocks is sound, in every world. That its saving
-/// stands in its place is a law on every plan (`saving_stands_in_its_place` in plan_laws).
-pub fn a_plan_without_copies_is_sound(c: &Core, world: &World, scheme: Scheme)
-    requires formed { IsWellFormed c.now }
-    requires bare { HasNoCopies c.now }
+/// All of it: every run of the plan of every program is sound, in every world and under both schemes. That its saving stands
+/// in its place is a law on every plan (`saving_stands_in_its_place` in plan_laws).
+pub fn every_run_of_a_plan_is_sound(c: &Core, world: &World, scheme: Scheme)
+    requires { IsWellFormed c.now }
     ensures { (numbers looks : List ℕ) → IsSoundRun (planned c.now world.now scheme) numbers looks }
 {
-    what_a_plan_without_copies_commits_is_walked(c, world, scheme);
-    a_trap_of_a_plan_without_copies_is_walked(c, world, scheme);
-    a_plan_without_copies_shows_what_the_rules_expect(c, world, scheme);
+    what_a_plan_commits_is_walked(c, world, scheme);
+    a_trap_of_a_plan_is_walked(c, world, scheme);
+    a_plan_shows_what_the_rules_expect(c, world, scheme);
     a_record_that_is_followed_agrees(c, world);
-    a_plan_without_copies_stays_within_the_steps(c, world, scheme);
-    a_plan_without_copies_goes_on(c, world, scheme);
+    a_plan_stays_within_the_steps(c, world, scheme);
+    a_plan_goes_on(c, world, scheme);
 }
