@@ -52,7 +52,7 @@ from_after c a (x ∷ xs) at more = from_after c a xs (with_state (after_atom c 
 
 -- ---- the machine
 
-seen_more : (place_of : ℕ → Place) (a b : List trace.Atom) → trace_seen place_of (a ++ b) ≡ trace_seen place_of a ++ trace_seen place_of b
+pub seen_more : (place_of : ℕ → Place) (a b : List trace.Atom) → trace_seen place_of (a ++ b) ≡ trace_seen place_of a ++ trace_seen place_of b
 seen_more place_of [] b = refl
 seen_more place_of (trace.wrote at word ∷ a) b = ap (λ (xs : List Seen). puts at word ∷ xs) (seen_more place_of a b)
 seen_more place_of (trace.showed e ∷ a) b = ap (λ (xs : List Seen). tells (placed place_of e) ∷ xs) (seen_more place_of a b)

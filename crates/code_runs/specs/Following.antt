@@ -179,4 +179,4 @@ StandsFor c scheme m s = (t : CoreTask) → task_of c s.task ≡ Some t → Stan
 
 -- so many steps to go don't come to an epoch that the state word has no room for
 abbrev pub HasEpochs : ℕ → Spot → State → Type 0
-HasEpochs n m s = s.epoch + n < 2 ^ 24
+HasEpochs n m s = s.epoch + n + 1 < 2 ^ 24

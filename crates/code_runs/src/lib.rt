@@ -3,4 +3,4 @@
 
 mod rows;
 
-pub use rows::acts_in_a_row_run_as_planned;
+pub use rows::{acts_in_a_row_run_as_planned, an_act_runs_at_its_place};
