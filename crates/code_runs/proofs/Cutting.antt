@@ -1,0 +1,215 @@
+-- An act's code at its place, cut anywhere.
+use Rattle.std.specs.Prelude.{◌⊎◌, ◌^◌, nat_lt}
+use Rattle.std.proofs.Common.{◌≡◌, ◌≢◌, ◌∙◌, ℕ, zero, suc, ◌+◌, ◌-◌, ◌<◌, ◌≤◌, inl, inr, Bool, true, false, List, [], ◌∷◌, ◌++◌, refl, sym, ap, subst, append_assoc, append-nil, arith}
+use Rattle.std.proofs.lemmas.Bool.Decides.{nat_tests}
+use Rattle.devices.specs.Journal.{Place, traps}
+use Rattle.task_ast.specs.declared.core_form.Core.{Core}
+use Rattle.task_ast.specs.WellFormed.{IsWellFormed}
+use Rattle.walk_run.specs.Trap.{code_of}
+use Rattle.walk_run.specs.declared.trap.Trap.{Trap}
+use Rattle.word_isa.specs.declared.parts.Scheme.{Scheme}
+use Rattle.word_machine.specs.Events.{event_at, event_next}
+use Rattle.word_machine.specs.RunLaws.{exec_more, stays_halted, stays_trapped, trace_more}
+use Rattle.word_machine.specs.State as machine
+use Rattle.word_machine.specs.State.{Program}
+use Rattle.word_machine.specs.Step.{exec, step, step_at}
+use Rattle.word_machine.specs.Straight.{Spot, live}
+use Rattle.word_machine.specs.Traces as trace
+use Rattle.word_machine.specs.declared.ending.Ending.{Ending}
+use Rattle.word_machine.specs.declared.ending.Ending.TheVariants.{Running, Halted, Trapped}
+use Rattle.line_laws.specs.Standing.{Lie}
+use Rattle.run_plan.specs.declared.act.Act.{Act}
+use Rattle.run_plan.specs.Cells.{State}
+use Rattle.run_plan.specs.Deeds.{act_done}
+use Rattle.run_plan.specs.Small.{Atom, Doing, Done, Way, after_atom, after_shown, core_of, does, fails, showing, stuck}
+use Rattle.run_plan.specs.Weights.{weight}
+use Rattle.word_code.specs.ActCode.{act_code}
+use Rattle.act_refines.specs.Between.{AreRelated}
+use Rattle.act_refines.specs.Does.{DoesAct, Ends, GoesOn, MayCommit, RelatedBehind, Stops, frame_of, has_begun, way_at}
+use Rattle.act_refines.specs.Seen.{IsFront, Seen, behind, event_seen, steps_seen, tells, trace_seen, write_seen}
+use Rattle.code_runs.specs.Cutting.{AreWhole, CutsBy, CutsWell, IsSoonAfter, SoFar}
+use Rattle.code_runs.specs.Following.{HasEpochs, IfMore, Inside, Passes, PassesBy, RunsAt, StandsFor, atoms_of, end_seen, shown_by}
+use Rattle.code_runs.proofs.Splitting.{seen_more}
+
+is_less : (n m : ℕ) → nat_lt n m ≡ true → n < m
+is_less n m is = grind (arith, nat_tests)
+
+not_less : (n m : ℕ) → nat_lt n m ≡ false → m ≤ n
+not_less n m is = grind (arith, nat_tests)
+
+-- ---- small steps, one list behind another
+
+steps_more : (c : Core) (scheme : Scheme) (a b : List Atom) (s : State) → steps_seen c scheme (a ++ b) s ≡ steps_seen c scheme a s ++ steps_seen c scheme b (behind c a s)
+steps_more c scheme [] b s = refl
+steps_more c scheme (x ∷ a) b s =
+    let own : List Seen = write_seen c scheme (after_shown x.event s) x.write ++ event_seen x.event in
+    ap (λ (ys : List Seen). own ++ ys) (steps_more c scheme a b (after_atom c x s)) ∙ sym (append_assoc own (steps_seen c scheme a (after_atom c x s)) (steps_seen c scheme b (behind c a (after_atom c x s))))
+
+behind_more : (c : Core) (a b : List Atom) (s : State) → behind c (a ++ b) s ≡ behind c b (behind c a s)
+behind_more c [] b s = refl
+behind_more c (x ∷ a) b s = behind_more c a b (after_atom c x s)
+
+-- ---- the machine
+
+-- fewer steps show a front of what more of them show
+front_of : (p : Program) (place_of : ℕ → Place) (n steps : ℕ) (m : Spot) (seen : List Seen) → n ≤ steps → trace_seen place_of (trace.trace p steps (live m)) ≡ seen → IsFront (trace_seen place_of (trace.trace p n (live m))) seen
+front_of p place_of n steps m seen few is =
+    let whole : n + (steps - n) ≡ steps = omega (arith, few) in
+    record {
+      rest = trace_seen place_of (trace.trace p (steps - n) (exec p n (live m)));
+      joined = sym (seen_more place_of (trace.trace p n (live m)) (trace.trace p (steps - n) (exec p n (live m)))) ∙ ap (trace_seen place_of) (sym (trace_more p n (steps - n) (live m)))
+          ∙ ap (λ j. trace_seen place_of (trace.trace p j (live m))) whole ∙ is;
+    }
+
+-- more steps are those behind fewer
+more_steps : (p : Program) (n steps : ℕ) (m : Spot) → n ≤ steps → exec p steps (live m) ≡ exec p (steps - n) (exec p n (live m))
+more_steps p n steps m few = let whole : steps ≡ n + (steps - n) = omega (arith, few) in ap (λ j. exec p j (live m)) whole ∙ exec_more p n (steps - n) (live m)
+
+more_trace : (p : Program) (n steps : ℕ) (m : Spot) → n ≤ steps → trace.trace p steps (live m) ≡ trace.trace p n (live m) ++ trace.trace p (steps - n) (exec p n (live m))
+more_trace p n steps m few = let whole : steps ≡ n + (steps - n) = omega (arith, few) in ap (λ j. trace.trace p j (live m)) whole ∙ trace_more p n (steps - n) (live m)
+
+-- a machine that has trapped shows nothing more
+trapped_trace : (p : Program) (k code : ℕ) (s : machine.State) → s.ending ≡ Trapped code → trace.trace p k s ≡ []
+unfolding trace.trace trace.writes_next event_next step
+trapped_trace p zero code s is = refl
+trapped_trace p (suc k) code s is = (λ i. (trace.writes_at p (is i) s ++ trace.shows (event_at p (is i) s)) ++ trace.trace p k (step_at p (is i) s)) ∙ trapped_trace p k code s is
+
+-- before a machine that goes on, it went on
+running : (p : Program) (n steps : ℕ) (m there : Spot) → exec p steps (live m) ≡ live there → n ≤ steps → (exec p n (live m)).ending ≡ Running
+running p n steps m there runs few = by (exec p n (live m)).ending refl
+  where
+    by : (e : Ending) → (exec p n (live m)).ending ≡ e → e ≡ Running
+    by Running is = refl
+    by Halted is =
+        let stays : exec p steps (live m) ≡ exec p n (live m) = more_steps p n steps m few ∙ stays_halted p (steps - n) (exec p n (live m)) is in
+        let ended : Running ≡ Halted = ap (λ t. t.ending) (sym runs ∙ stays) ∙ is in
+        cc
+    by (Trapped code) is =
+        let stays : exec p steps (live m) ≡ exec p n (live m) = more_steps p n steps m few ∙ stays_trapped p (steps - n) code (exec p n (live m)) is in
+        let ended : Running ≡ Trapped code = ap (λ t. t.ending) (sym runs ∙ stays) ∙ is in
+        cc
+
+-- ---- an act that goes on, and one that traps
+
+-- within the steps in which the machine goes on
+inside_running : (p : Program) (place_of : ℕ → Place) (c : Core) (scheme : Scheme) (Stood : (ℕ → ℕ) → State → Type 0) (n : ℕ) (m : Spot) (s : State) (atoms : List Atom) (x : SoFar p place_of c scheme Stood n m s atoms)
+    → (exec p n (live m)).ending ≡ Running → shown_by p place_of n m ≡ steps_seen c scheme x.front s
+inside_running p place_of c scheme Stood n m s atoms x is =
+    ap (λ e. trace_seen place_of (trace.trace p n (live m)) ++ end_seen e) is ∙ append-nil (trace_seen place_of (trace.trace p n (live m))) ∙ x.shown
+
+if_more : (left : List Atom) (x : Atom) (claim : Type 0) → claim → IfMore (left ++ x ∷ []) claim
+if_more [] x claim h = h
+if_more (y ∷ left) x claim h = h
+
+-- all of an act that traps
+inside_trapped : (p : Program) (place_of : ℕ → Place) (c : Core) (scheme : Scheme) (Stood : (ℕ → ℕ) → State → Type 0) (n most : ℕ) (m : Spot) (s : State) (atoms : List Atom) (why : Trap) → AreWhole p place_of c scheme Stood m s atoms
+    → (exec p n (live m)).ending ≡ Trapped (code_of why) → trace_seen place_of (trace.trace p n (live m)) ≡ steps_seen c scheme atoms s → Inside p place_of c scheme Stood n most m s (fails atoms why)
+inside_trapped p place_of c scheme Stood n most m s atoms why w ended all =
+    let trap : List Atom = showing (traps (code_of why)) ∷ [] in
+    record {
+      front = atoms ++ trap;
+      left = [];
+      whole = append-nil (atoms ++ trap);
+      shown = (λ i. all i ++ end_seen (ended i)) ∙ sym (steps_more c scheme atoms trap s);
+      stood = subst (Stood (exec p n (live m)).store) (sym (behind_more c atoms trap s)) (w.last n all);
+      in_time = tt;
+    }
+
+-- one that traps, before its trap and behind it
+fails_by : (p : Program) (place_of : ℕ → Place) (c : Core) (scheme : Scheme) (Stood : (ℕ → ℕ) → State → Type 0) (n most : ℕ) (m : Spot) (s : State) (atoms : List Atom) (why : Trap) → AreWhole p place_of c scheme Stood m s atoms
+    → Stops p place_of most m (code_of why) (steps_seen c scheme atoms s) → Inside p place_of c scheme Stood n most m s (fails atoms why)
+fails_by p place_of c scheme Stood n most m s atoms why w x = by (nat_lt n x.steps) refl
+  where
+    at : (e : Ending) → n < x.steps → (exec p n (live m)).ending ≡ e → Inside p place_of c scheme Stood n most m s (fails atoms why)
+    at Running early is =
+        let few : n ≤ x.steps = omega (arith, early) in
+        let steps_few : x.steps ≤ most = x.few in
+        let so = w.fronts n (front_of p place_of n x.steps m (steps_seen c scheme atoms s) few x.shown) in
+        let trap : List Atom = showing (traps (code_of why)) ∷ [] in
+        record {
+          front = so.front;
+          left = so.left ++ trap;
+          whole = sym (append_assoc so.front so.left trap) ∙ ap (λ (ys : List Atom). ys ++ trap) so.whole;
+          shown = inside_running p place_of c scheme Stood n m s atoms so is;
+          stood = so.stood;
+          in_time = if_more so.left (showing (traps (code_of why))) (n < most) (omega (arith, early, steps_few));
+        }
+    at Halted early is =
+        let few : n ≤ x.steps = omega (arith, early) in
+        let stays : exec p x.steps (live m) ≡ exec p n (live m) = more_steps p n x.steps m few ∙ stays_halted p (x.steps - n) (exec p n (live m)) is in
+        let ended : Halted ≡ Trapped (code_of why) = sym is ∙ ap (λ t. t.ending) (sym stays) ∙ x.ended in
+        cc
+    at (Trapped code) early is =
+        let few : n ≤ x.steps = omega (arith, early) in
+        let stays : exec p x.steps (live m) ≡ exec p n (live m) = more_steps p n x.steps m few ∙ stays_trapped p (x.steps - n) code (exec p n (live m)) is in
+        let same_trace : trace.trace p x.steps (live m) ≡ trace.trace p n (live m) =
+        more_trace p n x.steps m few ∙ ap (λ (ys : List trace.Atom). trace.trace p n (live m) ++ ys) (trapped_trace p (x.steps - n) code (exec p n (live m)) is) ∙ append-nil (trace.trace p n (live m)) in
+        inside_trapped p place_of c scheme Stood n most m s atoms why w (ap (λ t. t.ending) (sym stays) ∙ x.ended) (ap (trace_seen place_of) (sym same_trace) ∙ x.shown)
+
+    by : (b : Bool) → nat_lt n x.steps ≡ b → Inside p place_of c scheme Stood n most m s (fails atoms why)
+    by true is = at (exec p n (live m)).ending (is_less n x.steps is) refl
+    by false is =
+        let few : x.steps ≤ n = not_less n x.steps is in
+        let stays : exec p n (live m) ≡ exec p x.steps (live m) = more_steps p x.steps n m few ∙ stays_trapped p (n - x.steps) (code_of why) (exec p x.steps (live m)) x.ended in
+        let same_trace : trace.trace p n (live m) ≡ trace.trace p x.steps (live m) =
+        more_trace p x.steps n m few ∙ ap (λ (ys : List trace.Atom). trace.trace p x.steps (live m) ++ ys) (trapped_trace p (n - x.steps) (code_of why) (exec p x.steps (live m)) x.ended) ∙ append-nil (trace.trace p x.steps (live m)) in
+        inside_trapped p place_of c scheme Stood n most m s atoms why w (ap (λ t. t.ending) stays ∙ x.ended) (ap (trace_seen place_of) same_trace ∙ x.shown)
+
+-- one that goes on, by whether it has gone its way
+does_by : (p : Program) (place_of : ℕ → Place) (c : Core) (scheme : Scheme) (Stood : (ℕ → ℕ) → State → Type 0) (Holds : ℕ → Spot → State → Type 0) (Related : Spot → State → Type 0) (n most : ℕ) (to : Way → ℕ) (m : Spot) (s : State)
+    (atoms : List Atom) (change : State → State) (way : Way) → AreWhole p place_of c scheme Stood m s atoms
+    → (g : GoesOn p place_of most m (to way) (steps_seen c scheme atoms s) (λ there. Related there (change (behind c atoms s)))) → (g.steps ≤ n → Holds (n - g.steps) g.there (change (behind c atoms s)))
+    → Inside p place_of c scheme Stood n most m s (does atoms change way) ⊎ Passes p place_of c scheme Holds Related n most (to way) m atoms s (change (behind c atoms s))
+does_by p place_of c scheme Stood Holds Related n most to m s atoms change way w g holds = by (nat_lt n g.steps) refl
+  where
+    by : (b : Bool) → nat_lt n g.steps ≡ b → Inside p place_of c scheme Stood n most m s (does atoms change way) ⊎ Passes p place_of c scheme Holds Related n most (to way) m atoms s (change (behind c atoms s))
+    by true is =
+        let early : n < g.steps = is_less n g.steps is in
+        let few : n ≤ g.steps = omega (arith, early) in
+        let steps_few : g.steps ≤ most = g.few in
+        let so = w.fronts n (front_of p place_of n g.steps m (steps_seen c scheme atoms s) few (ap (trace_seen place_of) g.goes.seen ∙ g.shown)) in
+        inl (record {
+          front = so.front;
+          left = so.left;
+          whole = so.whole;
+          shown = inside_running p place_of c scheme Stood n m s atoms so (running p n g.steps m g.there g.goes.runs few);
+          stood = so.stood;
+          in_time = omega (arith, early, steps_few);
+        })
+    by false is = inr (record { goes = g; few = not_less n g.steps is; holds = holds (not_less n g.steps is) })
+
+-- ---- epochs
+
+-- what shows nothing takes any number of steps, what shows something one at least
+shows_steps : (p : Program) (place_of : ℕ → Place) (steps : ℕ) (m : Spot) (seen : List Seen) → trace_seen place_of (trace.trace p steps (live m)) ≡ seen → seen ≢ [] → 0 < steps
+unfolding trace.trace
+shows_steps p place_of zero m seen is some = absurd (some (sym is))
+shows_steps p place_of (suc steps) m seen is some = omega arith
+
+epochs_left : (p : Program) (place_of : ℕ → Place) (c : Core) (scheme : Scheme) (n most pc : ℕ) (m : Spot) (s to : State) (atoms : List Atom) (Related : Spot → Type 0) (g : GoesOn p place_of most m pc (steps_seen c scheme atoms s) Related)
+    → IsSoonAfter c scheme atoms s to → HasEpochs n m s → g.steps ≤ n → HasEpochs (n - g.steps) g.there to
+epochs_left p place_of c scheme n most pc m s to atoms Related g (inl same) room few = omega (arith, same, room, few)
+epochs_left p place_of c scheme n most pc m s to atoms Related g (inr next) room few =
+    let later : to.epoch ≡ s.epoch + 1 = next.0 in
+    let some : 0 < g.steps = shows_steps p place_of g.steps m (steps_seen c scheme atoms s) (ap (trace_seen place_of) g.goes.seen ∙ g.shown) next.1 in
+    omega (arith, later, room, few, some)
+
+-- ---- an act at its place
+
+runs_by : (p : Program) (place_of : ℕ → Place) (d : Doing) (Stood : (ℕ → ℕ) → State → Type 0) (a : Act) (n most : ℕ) (to : Way → ℕ) (m : Spot) (s : State) (done : Done)
+    → CutsBy p place_of (core_of d) d.scheme Stood m s done → Ends p place_of d a most to m s done → HasEpochs n m s
+    → Inside p place_of (core_of d) d.scheme Stood n most m s done ⊎ PassesBy p place_of (core_of d) d.scheme HasEpochs (RelatedBehind p d a) n most to m s done
+runs_by p place_of d Stood a n most to m s (does atoms change way) cuts g room =
+    does_by p place_of (core_of d) d.scheme Stood HasEpochs (RelatedBehind p d a) n most to m s atoms change way cuts.0 g
+    (epochs_left p place_of (core_of d) d.scheme n most (to way) m s (change (behind (core_of d) atoms s)) atoms (λ there. RelatedBehind p d a there (change (behind (core_of d) atoms s))) g cuts.1 room)
+runs_by p place_of d Stood a n most to m s (fails atoms why) cuts x room = inl (fails_by p place_of (core_of d) d.scheme Stood n most m s atoms why cuts x)
+runs_by p place_of d Stood a n most to m s stuck cuts x room = elim cuts [ ]
+
+pub runs_at : (p : Program) (place_of : ℕ → Place) (d : Doing) (number : ℕ) (keeps : Bool) (a : Act) (at next : ℕ) → IsWellFormed (core_of d) → DoesAct p place_of d number keeps a MayCommit
+    → Lie p at (act_code (frame_of d number) keeps a at next) → ((m : Spot) (s : State) → m.pc ≡ at → AreRelated p d (has_begun a) m s → CutsWell p place_of d a m s)
+    → RunsAt p place_of d number (StandsFor (core_of d) d.scheme) HasEpochs a at next
+runs_at p place_of d number keeps a at next well act has cuts n m s pc related room =
+    let epoch_fits : s.epoch + 1 < 2 ^ 24 = omega (arith, room) in
+    runs_by p place_of d (StandsFor (core_of d) d.scheme) a n (weight d a s) (way_at (frame_of d number) a at next) m s (act_done d a s) (cuts m s pc related)
+    (subst (λ w. Ends p place_of d a (weight d a s) (way_at (frame_of d number) a w next) m s (act_done d a s)) pc
+    (act next m s well (subst (λ w. Lie p w (act_code (frame_of d number) keeps a w next)) (sym pc) has) related epoch_fits)) room

@@ -1,0 +1,4 @@
+pub mod Cutting
+pub mod Following
+pub mod InRows
+pub mod Splitting
