@@ -1,0 +1,4 @@
+pub mod Fitting
+pub mod Fits
+pub mod Journal
+pub mod Lines
