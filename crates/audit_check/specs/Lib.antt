@@ -1,4 +1,7 @@
 pub mod Fitting
 pub mod Fits
 pub mod Journal
+pub mod Leads
 pub mod Lines
+pub mod Same
+pub mod Walking

@@ -4,6 +4,8 @@
 
 mod fitting;
 mod journal;
+mod same;
+mod walking;
 
 pub use fitting::fitting_lines;
 pub use journal::{ReportBoot, ReportEvent, ReportPlace, TimedEvent};
