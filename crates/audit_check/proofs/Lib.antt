@@ -1,1 +1,3 @@
 mod FittingLaws
+mod SameLaws
+mod TrackLaws

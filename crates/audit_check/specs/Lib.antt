@@ -4,4 +4,5 @@ pub mod Journal
 pub mod Leads
 pub mod Lines
 pub mod Same
+pub mod Tracks
 pub mod Walking

@@ -5,7 +5,6 @@ use Rattle.task_ast.specs.declared.core_form.CoreExpr.{CoreExpr}
 use Rattle.task_ast.specs.declared.core_form.CoreTarget.{CoreTarget}
 use Rattle.task_ast.specs.declared.core_form.CoreEnd.{CoreEnd}
 use Rattle.task_ast.specs.declared.core_form.CoreExit.{CoreExit}
-use Rattle.task_ast.specs.declared.core_form.Core.{Core}
 use Rattle.io_annot.specs.declared.choice.Mode.{Mode}
 use Rattle.walk_run.specs.declared.trap.Trap.{Trap}
 use Rattle.walk_run.specs.declared.place.Place.{Place}
@@ -26,10 +25,9 @@ use Rattle.audit_check.specs.declared.walking.Stop.TheVariants as stop
 use Rattle.audit_check.specs.Journal.{event_of}
 use Rattle.audit_check.specs.Same.{same}
 
--- What is known between two events of a boot: the program and its readings, the events that are left, the store, the store as
--- the last commit left it and the next task, the mode, the records by site, and how often each peripheral was issued.
+-- What is known between two events of a boot: the readings, the events that are left, the store, the store as the last commit
+-- left it and the next task, the mode, the records by site, and how often each peripheral was issued.
 pub record Walking : Type 0 where
-  pub core : Core
   pub feeds : List Feed
   pub rest : List TimedEvent
   pub store : Store
@@ -52,9 +50,9 @@ abbrev pub moved : {A : Type 0} → A → Walking → Way A
 moved x w = Ok (record { value = x; walking = w })
 
 -- a step, and then what its value asks for
-abbrev pub then : {A B : Type 0} → Way A → (A → Walking → Way B) → Way B
-then (Ok m) next = next m.value m.walking
-then (Err w) next = Err w
+abbrev pub chain : {A B : Type 0} → Way A → (A → Walking → Way B) → Way B
+chain (Ok m) next = next m.value m.walking
+chain (Err w) next = Err w
 
 -- where a step is left in either case
 abbrev pub left_by : {A : Type 0} → Way A → Walking
@@ -100,7 +98,7 @@ with_kept k r w = record w { records = slice_set w.records k r }
 
 -- a record is dropped
 unfoldable pub dropped : (site : ℕ) → Walking → Way (Unit {0})
-dropped k w = then (taken (drops k) w) (λ _ w. moved tt (with_kept k None w))
+dropped k w = chain (taken (drops k) w) (λ _ w. moved tt (with_kept k None w))
 
 -- a record is dropped, where that is asked for
 unfoldable pub dropped_if : Bool → (site : ℕ) → Walking → Way (Unit {0})
@@ -109,11 +107,11 @@ dropped_if wanted k w = if wanted then dropped k w else moved tt w
 -- so many sites from one on drop their records, those of which it is asked for
 abbrev pub dropped_from : (ℕ → Bool) → (site left : ℕ) → Walking → Way (Unit {0})
 dropped_from wanted k zero w = moved tt w
-dropped_from wanted k (suc left) w = then (dropped_if (wanted k) k w) (λ _ w. dropped_from wanted (k + 1) left w)
+dropped_from wanted k (suc left) w = chain (dropped_if (wanted k) k w) (λ _ w. dropped_from wanted (k + 1) left w)
 
 -- a record is sealed
 unfoldable pub sealed : (site : ℕ) → Kept → Walking → Way (Unit {0})
-sealed k r w = then (taken (seals k) w) (λ _ w. moved tt (with_kept k (Some r) w))
+sealed k r w = chain (taken (seals k) w) (λ _ w. moved tt (with_kept k (Some r) w))
 
 -- how often a peripheral was issued, as far as its readings go
 abbrev pub count_of : (peripheral : ℕ) → Walking → ℕ
@@ -129,7 +127,7 @@ with_count p w = record w { issued = slice_set w.issued p (one_more (values_in w
 
 -- a peripheral is issued
 unfoldable pub issued_now : (site p : ℕ) → (args : List ℕ) → Walking → Way ℕ
-issued_now k p args w = then (taken (issues k p args (next_reading p w)) w) (λ _ after. moved (next_reading p w) (with_count p after))
+issued_now k p args w = chain (taken (issues k p args (next_reading p w)) w) (λ _ after. moved (next_reading p w) (with_count p after))
 
 -- ---- what is valued
 
@@ -149,12 +147,12 @@ word e w = found (value_of e w.store) w
 -- words are valued from left to right, behind those that are
 abbrev pub words_behind : List ℕ → List CoreExpr → Walking → Way (List ℕ)
 words_behind words [] w = moved words w
-words_behind words (e ∷ es) w = then (word e w) (λ x w. words_behind (words ++ x ∷ []) es w)
+words_behind words (e ∷ es) w = chain (word e w) (λ x w. words_behind (words ++ x ∷ []) es w)
 
 -- a target is found, where a call has one
 unfoldable pub reading_target : Option CoreTarget → Walking → Way (Option Place)
 reading_target None w = moved None w
-reading_target (Some t) w = then (found (target_place t w.store) w) (λ at w. moved (Some at) w)
+reading_target (Some t) w = chain (found (target_place t w.store) w) (λ at w. moved (Some at) w)
 
 -- an end of a copy is found
 unfoldable pub copy_end : CoreEnd → Walking → Way Place
@@ -162,7 +160,7 @@ copy_end e w = found (end_place e w.store) w
 
 -- so many words from a place on are tested to be in its array
 unfoldable pub tested : Place → (words : ℕ) → Walking → Way (Unit {0})
-tested at n w = then (found (with_room w.store at n) w) (λ _ w. moved tt w)
+tested at n w = chain (found (with_room w.store at n) w) (λ _ w. moved tt w)
 
 -- another store
 abbrev pub with_store : Store → Walking → Walking

@@ -4,6 +4,7 @@
 
 mod fitting;
 mod journal;
+mod probe;
 mod same;
 mod walking;
 

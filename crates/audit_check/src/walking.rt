@@ -16,7 +16,6 @@ use io_annot::Mode;
 use region_split::DmaClass;
 use std::alloc::Global;
 use std::marker::Model;
-use task_ast::Core;
 use walk_run::{Live, Place, Trap};
 
 /// The record of a site.
@@ -51,7 +50,6 @@ impl From<NoMemory> for Stop {
 /// What is known between two events.
 #[derive(Drop)]
 pub struct Walking<'a> {
-    pub core: &'a Core,
     pub feeds: &'a [Feed],
     pub rest: &'a [TimedEvent],
     pub live: Live,
@@ -67,7 +65,7 @@ impl<'a> Model for Walking<'a> {
 
     ghost Value = { Walking };
 
-    ghost view = { λ w. record { core = w.core.now; feeds = w.feeds.now; rest = w.rest.now; store = w.live; committed = w.committed; next = w.next; mode = w.mode; records = w.records.items; issued = w.issued.items } };
+    ghost view = { λ w. record { feeds = w.feeds.now; rest = w.rest.now; store = w.live; committed = w.committed; next = w.next; mode = w.mode; records = w.records.items; issued = w.issued.items } };
 }
 
 /// The readings of a peripheral.
