@@ -1,3 +1,7 @@
+mod AllowedRows
 mod FittingLaws
+mod LeafLaws
 mod SameLaws
 mod TrackLaws
+mod WalkLemmas
+mod WalkLaws

@@ -13,10 +13,10 @@ are_both : (a b : Bool) → a ≡ true → b ≡ true → (a && b) ≡ true
 are_both true b h k = k
 are_both false b h k = absurd (false≢true h)
 
-equal : (a b : ℕ) → (a == b) ≡ true → a ≡ b
+pub equal : (a b : ℕ) → (a == b) ≡ true → a ≡ b
 equal a b h = grind (arith, nat_tests)
 
-itself : (a : ℕ) → (a == a) ≡ true
+pub itself : (a : ℕ) → (a == a) ≡ true
 itself a = grind (arith, nat_tests)
 
 alike_is : (xs ys : List ℕ) → alike xs ys ≡ true → xs ≡ ys

@@ -1,8 +1,10 @@
-pub mod Fitting
+pub mod Allowed
 pub mod Fits
+pub mod Fitting
 pub mod Journal
 pub mod Leads
 pub mod Lines
 pub mod Same
 pub mod Tracks
+pub mod Walked
 pub mod Walking

@@ -1,6 +1,7 @@
 -- What a walk knows of the standing, and when a step of it goes along what the rules say.
 use Rattle.std.specs.Prelude.{◌≡◌, ℕ, ◌<◌, min, List, length, map, Option, Some, None, Result, Ok, Err}
 use Rattle.std.specs.Option.{option_map}
+use Rattle.devices.specs.declared.world.Feed.{Feed}
 use Rattle.devices.specs.Reading.{values_in}
 use Rattle.devices.specs.Journal.{JournalEvent}
 use Rattle.task_attempts.specs.State.{Record, of_reading, of_block, of_copy, Standing, Here, Rest}
@@ -22,9 +23,10 @@ kept_of (of_reading value stamp args) = kept.Reading value stamp
 kept_of (of_block stamp) = kept.Block stamp
 kept_of (of_copy class to from words) = kept.Copy class to words
 
--- A walk knows a standing: its committed store and next task, the records of its sites, and how often each peripheral was
+-- A walk over these readings knows a standing: its committed store and next task, the records of its sites, and how often each peripheral was
 -- issued, as far as that tells readings.
-pub record Knows (w : Walking) (s : Standing) : Type 0 where
+pub record Knows (feeds : List Feed) (w : Walking) (s : Standing) : Type 0 where
+  pub readings : w.feeds ≡ feeds
   pub committed : s.committed ≡ w.committed
   pub next : s.next ≡ w.next
   pub records : (k : ℕ) → k < length w.records → record_at k w.records ≡ option_map kept_of (s.account.records k)
@@ -32,8 +34,8 @@ pub record Knows (w : Walking) (s : Standing) : Type 0 where
   pub issued : (p : ℕ) → p < 256 → count_of p w ≡ min (s.account.issued p) (length (values_in w.feeds p))
 
 -- It is at a place of an attempt.
-pub record IsAt (w : Walking) (here : Here) : Type 0 where
-  pub knows : Knows w here.standing
+pub record IsAt (feeds : List Feed) (w : Walking) (here : Here) : Type 0 where
+  pub knows : Knows feeds w here.standing
   pub store : here.store ≡ w.store
   pub mode : here.mode ≡ w.mode
 
@@ -42,17 +44,17 @@ abbrev pub from_here : Rest → Here → Awaited
 from_here go here = λ looks. go (with_looks looks here)
 
 -- a place at which the rules go on
-pub record Onward (w : Walking) (go : Rest) (f : Awaited) : Type 0 where
+pub record Onward (feeds : List Feed) (w : Walking) (go : Rest) (f : Awaited) : Type 0 where
   pub here : Here
-  pub is_at : IsAt w here
+  pub is_at : IsAt feeds w here
   pub log : f ≡ from_here go here
 
 -- Where a step goes on, so do the rules, with its value; where it stops, the next event isn't theirs, or there is none.
-abbrev pub Follows : {A : Type 0} → Way A → (A → Rest) → End
-Follows (Ok m) go es s f = (es ≡ events m.walking.rest) × Knows m.walking s × Onward m.walking (go m.value) f
-Follows (Err w) go es s f = (es ≡ events w.rest) × Knows w s × Differs es f
+abbrev pub Follows : {A : Type 0} → List Feed → Way A → (A → Rest) → End
+Follows feeds (Ok m) go es s f = (es ≡ events m.walking.rest) × Knows feeds m.walking s × Onward feeds m.walking (go m.value) f
+Follows feeds (Err w) go es s f = (es ≡ events w.rest) × Knows feeds w s × Differs es f
 
 -- A step goes along a part of the rules, whatever comes behind it.
-abbrev pub Tracks : {A : Type 0} → (part : (A → Rest) → Rest) → (step : Walking → Way A) → Type 0
-Tracks {A = A} part step =
-    (w : Walking) (here : Here) (s : Standing) (go : A → Rest) → IsAt w here → Knows w s → Reached (events w.rest) s (from_here (part go) here) (Follows (step w) go)
+abbrev pub Tracks : {A : Type 0} → List Feed → (part : (A → Rest) → Rest) → (step : Walking → Way A) → Type 0
+Tracks {A = A} feeds part step =
+    (w : Walking) (here : Here) (s : Standing) (go : A → Rest) → IsAt feeds w here → Knows feeds w s → Reached (events w.rest) s (from_here (part go) here) (Follows feeds (step w) go)

@@ -2,6 +2,8 @@
 //! and looks fit the world; the walk of its events along the rules isn't here yet.
 #![tactic(auto)]
 
+mod around;
+mod calls;
 mod fitting;
 mod journal;
 mod probe;

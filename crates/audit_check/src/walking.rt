@@ -69,6 +69,7 @@ impl<'a> Model for Walking<'a> {
 }
 
 /// The readings of a peripheral.
+#[tactic(auto, unfolding(devices::specs::Reading::values_in))]
 fn values_of<'a>(feeds: &'a [Feed], p: u32) -> &'a [u32]
     ensures { result.now ≡ values_in feeds.now p }
 {

@@ -1,3 +1,4 @@
+-- The lines that were counted are those that fit.
 use Rattle.std.proofs.Common.{refl, ap, ◌∙◌}
 use Rattle.audit_check.specs.Fitting.{Power, all_booted, powered}
 use Rattle.audit_check.proofs.FittingLaws.{fitting_is}
