@@ -78,18 +78,36 @@ drops_again =
 
 -- ---- allowed
 
-pub it_is_allowed : IsAllowed program (world (row 100 ∷ [])) one_boot
+it_is_allowed : IsAllowed program (world (row 100 ∷ [])) one_boot
 unfolding hidden-the_row-CoreExpr-0 shape-the_row-CoreExpr-0 hidden boot_log boots_from values_in reading program one_boot
 it_is_allowed = record {
   legal = record { expected = refl; timed = ((tt, (refl, (tt, (tt, (tt, (tt, tt)))))), tt) };
-  steps =
-      (refl,
-      (omega arith, omega arith, (λ trap. absurd (false≢true trap)),
-      (omega arith, omega arith, (λ trap. absurd (false≢true trap)),
-      (omega arith, omega arith, (λ trap. absurd (false≢true trap)),
-      (omega arith, omega arith, (λ trap. absurd (false≢true trap)),
-      (omega arith, omega arith, (λ trap. absurd (false≢true trap)), (omega arith, omega arith, (λ trap. refl), tt)))))),
-      (λ trap. refl), tt);
+  steps = (
+    refl,
+    (
+      omega arith,
+      omega arith,
+      (λ trap. absurd (false≢true trap)),
+      (
+        omega arith,
+        omega arith,
+        (λ trap. absurd (false≢true trap)),
+        (
+          omega arith,
+          omega arith,
+          (λ trap. absurd (false≢true trap)),
+          (
+            omega arith,
+            omega arith,
+            (λ trap. absurd (false≢true trap)),
+            (omega arith, omega arith, (λ trap. absurd (false≢true trap)), (omega arith, omega arith, (λ trap. refl), tt)),
+          ),
+        ),
+      ),
+    ),
+    (λ trap. refl),
+    tt,
+  );
 }
 
 two_are_legal : IsLegal (rules_of program (world (row 5 ∷ row 100 ∷ []))) (journal_of two_boots)

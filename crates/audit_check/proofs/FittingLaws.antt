@@ -157,8 +157,8 @@ module _ (world : World) where
       let less = le_of_suc-le-suc le in
       let rest = more (clocked_next p e c q) less in
       let last : is_trap (event_of e.event) ≡ true → take k (timed es) ≡ [] = λ trap.
-          let stops : fitted (paced_by p e) es ≡ 0 = over_stops (paced_by p e) es (trap_is e.event ∙ trap) in
-          let none : k ≡ 0 = omega (arith, stops, less) in ap (λ k. take k (timed es)) none in
+      let stops : fitted (paced_by p e) es ≡ 0 = over_stops (paced_by p e) es (trap_is e.event ∙ trap) in
+      let none : k ≡ 0 = omega (arith, stops, less) in ap (λ k. take k (timed es)) none in
       ((q.later, q.within, last, rest.0), (shown_is e.step p.off e.event at.0 at.1 q.clock, rest.1))
 
   events_hold : (p : Pace) (es : List TimedEvent) (k : ℕ) → Clocked p → k ≤ fitted p es → Good p.done p.last (take k (timed es))
@@ -313,8 +313,8 @@ module _ (world : World) where
       let sum = ticks_more row rows in
       let on : capped (p.done + row.on) ≡ p.done + row.on = capped_is (p.done + row.on) (omega (arith, st.1, sum)) in
       let known : (d : ℕ) → p.done ≤ d → d < capped (p.done + row.on) → off_ticks world.power d ≡ p.off = λ d above below.
-          let none : off_ticks (row ∷ rows) (d - p.done) ≡ 0 = off_none row rows (d - p.done) (omega (arith, above, below, on)) in
-          st.0 d above ∙ omega (arith, none) in
+      let none : off_ticks (row ∷ rows) (d - p.done) ≡ 0 = off_none row rows (d - p.done) (omega (arith, above, below, on)) in
+      st.0 d above ∙ omega (arith, none) in
       (record { off = known; few = omega (arith, st.1, sum, on) }, on)
 
   -- behind a boot of the row
@@ -329,14 +329,15 @@ module _ (world : World) where
   standing_next p row (next ∷ rows) b st =
       let sum = ticks_more row (next ∷ rows) in
       let done = done_next p row (next ∷ rows) b st in
-      let off : capped (p.off + row.off) ≡ p.off + row.off = capped_is (p.off + row.off) (omega (arith, st.1, sum)) in
-      (λ d above.
-      let more = off_more row next rows (d - p.done) (omega (arith, above, done)) in
-      let at : d - p.done - row.on ≡ d - (next_in p row (next ∷ rows) b).done = omega (arith, above, done) in
-      let rest = ap (off_ticks (next ∷ rows)) at in
-      let before = st.0 d (omega (arith, above, done)) in
-      omega (arith, before, more, rest, off),
-      omega (arith, st.1, sum, done, off))
+      let off : capped (p.off + row.off) ≡ p.off + row.off = capped_is (p.off + row.off) (omega (arith, st.1, sum)) in (
+        λ d above.
+            let more = off_more row next rows (d - p.done) (omega (arith, above, done)) in
+            let at : d - p.done - row.on ≡ d - (next_in p row (next ∷ rows) b).done = omega (arith, above, done) in
+            let rest = ap (off_ticks (next ∷ rows)) at in
+            let before = st.0 d (omega (arith, above, done)) in
+            omega (arith, before, more, rest, off),
+        omega (arith, st.1, sum, done, off),
+      )
 
   -- how many lines of boots fit
   abbrev fitted_boot : Power → List PowerRow → ReportBoot → (rest : ℕ) → ℕ
@@ -382,9 +383,15 @@ module _ (world : World) where
       let every = events_hold (pace_in p row) b.events n c.0 (omega (arith, all.0)) in
       let good = subst (Good p.done (pace_in p row).last) (sym (whole m b.events long)) every in
       let no_trap : has_trap (take m (timed b.events)) ≡ false =
-          ap has_trap (take_all m (timed b.events) (omega (arith, long, length_timed b.events))) ∙ all.1 in
-      ((begun, subst (λ last. EventsFit p.done last (take m (timed b.events))) c.1 good.0, (λ trap. absurd (false≢true (sym no_trap ∙ trap))),
-      subst (λ done. BootsFit done rows (front k (boots_of bs))) (done_next p row rows b st) rest.0), (good.1, rest.1))
+      ap has_trap (take_all m (timed b.events) (omega (arith, long, length_timed b.events))) ∙ all.1 in (
+        (
+          begun,
+          subst (λ last. EventsFit p.done last (take m (timed b.events))) c.1 good.0,
+          (λ trap. absurd (false≢true (sym no_trap ∙ trap))),
+          subst (λ done. BootsFit done rows (front k (boots_of bs))) (done_next p row rows b st) rest.0,
+        ),
+        (good.1, rest.1),
+      )
 
   hold_in : (p : Power) (row : PowerRow) (rows : List PowerRow) (b : ReportBoot) (bs : List ReportBoot) (m : ℕ) (u within : Bool) → Standing p (row ∷ rows) → b.begun_at ≡ p.done
       → (next_in p row rows b).over ≡ u → nat_le m (length b.events) ≡ within

@@ -50,10 +50,11 @@ module _ (feeds : List Feed) where
     readings = knows.readings;
     committed = knows.committed;
     next = knows.next;
+    sites = length-set w.records k (option_map kept_of r) ∙ knows.sites;
     records = λ j within.
-        let there : j < length w.records = subst (λ n. j < n) (length-set w.records k (option_map kept_of r)) within in
+        let there : j < length w.records = omega (arith, within, knows.sites) in
         record_set w.records k j (option_map kept_of r) there
-        ∙ ap (cond (k == j) (option_map kept_of r)) (knows.records j there)
+        ∙ ap (cond (k == j) (option_map kept_of r)) (knows.records j within)
         ∙ chosen_record (k == j) r (here.standing.account.records j);
     peripherals = knows.peripherals;
     issued = knows.issued;
@@ -63,7 +64,7 @@ module _ (feeds : List Feed) where
   at_kept w here k r rest at =
       let knows = at.knows in
       record {
-        knows = knows_kept (record w { rest = rest }) here k r (record { readings = knows.readings; committed = knows.committed; next = knows.next; records = knows.records; peripherals = knows.peripherals; issued = knows.issued });
+        knows = knows_kept (record w { rest = rest }) here k r (record { readings = knows.readings; committed = knows.committed; next = knows.next; sites = knows.sites; records = knows.records; peripherals = knows.peripherals; issued = knows.issued });
         store = at.store;
         mode = at.mode;
       }
@@ -102,7 +103,7 @@ module _ (feeds : List Feed) where
       let next : IsNext (looks j t) (from_here (look k go) here) l (from_here (go t) here) = record { event = sym same; goes = λ times. refl } in
       let n = at.knows in
       let known : Knows feeds (record w { rest = rest }) here.standing =
-          record { readings = n.readings; committed = n.committed; next = n.next; records = n.records; peripherals = n.peripherals; issued = n.issued } in
+      record { readings = n.readings; committed = n.committed; next = n.next; sites = n.sites; records = n.records; peripherals = n.peripherals; issued = n.issued } in
       (1, (l, from_here (go t) here, next, (refl, known, record { here = here; is_at = record { knows = known; store = at.store; mode = at.mode }; log = refl })))
   look_at k j t go w here s rest false is at knows front =
       (0, (sym front, knows, λ times same. false≢true (sym is ∙ ap (λ x. x == k) (sym (ap first_of (some_is (looks k t) (looks j t) same))) ∙ itself k)))
@@ -155,6 +156,7 @@ module _ (feeds : List Feed) where
           readings = n.readings;
           committed = n.committed;
           next = n.next;
+          sites = n.sites;
           records = n.records;
           peripherals = length-set w.issued p more ∙ n.peripherals;
           issued = λ q few.
@@ -172,8 +174,8 @@ module _ (feeds : List Feed) where
       let r = reading_in setting.rules.world.feeds p (here.standing.account.issued p + 1) in
       let values = values_in w.feeds p in
       let read : r ≡ next_reading p w =
-          ap (λ feeds. reading (values_in feeds p) (here.standing.account.issued p + 1)) (world ∙ sym n.readings)
-          ∙ sym (reading_kept values (here.standing.account.issued p)) ∙ ap (λ c. reading values (c + 1)) (sym (n.issued p few)) in
+      ap (λ feeds. reading (values_in feeds p) (here.standing.account.issued p + 1)) (world ∙ sym n.readings)
+      ∙ sym (reading_kept values (here.standing.account.issued p)) ∙ ap (λ c. reading values (c + 1)) (sym (n.issued p few)) in
       subst (λ x. Reached (events w.rest) s (from_here (issue setting k p args go) here) (Follows feeds (chain (taken (issues k p args x) w) (λ _ v. moved x (with_count p v))) go)) read
       (told_tracks feeds (issues k p args r) None r go w (with_count p) (with_issue p here) s refl (λ rest. refl) (λ rest. at_issue w here p rest at) knows)
 

@@ -3,5 +3,3 @@ mod FittingLaws
 mod LeafLaws
 mod SameLaws
 mod TrackLaws
-mod WalkLemmas
-mod WalkLaws

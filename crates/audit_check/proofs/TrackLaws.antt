@@ -59,7 +59,7 @@ abbrev pub logs : JournalEvent → Option Followed → Rest → Here → Awaited
 logs e followed go here = λ times. logged e followed (with_looks times here) ∷ go (with_looks times here)
 
 module _ (feeds : List Feed) where
-  behind : {A B : Type 0} (part : A → (B → Rest) → Rest) (next : A → Walking → Way B) (go : B → Rest) (way : Way A) → ((x : A) → Tracks feeds (part x) (next x))
+  pub behind : {A B : Type 0} (part : A → (B → Rest) → Rest) (next : A → Walking → Way B) (go : B → Rest) (way : Way A) → ((x : A) → Tracks feeds (part x) (next x))
       → (es : List JournalEvent) (s : Standing) (f : Awaited) → Follows feeds way (λ x. part x go) es s f → Reached es s f (Follows feeds (chain way next) go)
   behind part next go (Ok m) tracks es s f at =
       let on = at.2 in
@@ -89,7 +89,7 @@ module _ (feeds : List Feed) where
       let l : Logged = logged e followed here in
       let silent : look_time x ≡ [] = ap look_time is ∙ timeless in
       let next : IsNext x (logs e followed (go y) here) l (from_here (go y) here) =
-          record { event = sym is; goes = λ times. ap (λ (t : List ℕ). logs e followed (go y) here (t ++ times)) silent } in
+      record { event = sym is; goes = λ times. ap (λ (t : List ℕ). logs e followed (go y) here (t ++ times)) silent } in
       (1, (l, from_here (go y) here, next, (rest, at.knows, record { here = here; is_at = at; log = refl })))
 
   told_by : {A : Type 0} (e : JournalEvent) (followed : Option Followed) (y : A) (go : A → Rest) (w : Walking) (change : Walking → Walking) (here : Here) (s : Standing) (x : TimedEvent) (rest : List TimedEvent) (t : Bool)
@@ -123,9 +123,9 @@ module _ (feeds : List Feed) where
       let l : Logged = logged (traps (code_of why)) None here in
       let same : e ≡ traps (code_of why) = same_is e (traps (code_of why)) is in
       let next : IsNext e (from_here (trap why) here) l (λ times. []) =
-          record { event = sym same; goes = λ times. ap (λ (t : List ℕ). from_here (trap why) here (t ++ times)) (ap look_time same) } in
+      record { event = sym same; goes = λ times. ap (λ (t : List ℕ). from_here (trap why) here (t ++ times)) (ap look_time same) } in
       let k = at.knows in
-      (1, (l, (λ times. []), next, (refl, record { committed = k.committed; next = k.next; records = k.records; peripherals = k.peripherals; readings = k.readings; issued = k.issued }, ended (events rest))))
+      (1, (l, (λ times. []), next, (refl, record { committed = k.committed; next = k.next; sites = k.sites; records = k.records; peripherals = k.peripherals; readings = k.readings; issued = k.issued }, ended (events rest))))
   trap_by why go w here s x rest false is at knows front =
       (0, (sym front, knows, no_other (traps (code_of why)) (event_of x.event) (from_here (trap why) here) (λ times. refl) is))
 

@@ -23,13 +23,14 @@ kept_of (of_reading value stamp args) = kept.Reading value stamp
 kept_of (of_block stamp) = kept.Block stamp
 kept_of (of_copy class to from words) = kept.Copy class to words
 
--- A walk over these readings knows a standing: its committed store and next task, the records of its sites, and how often each peripheral was
--- issued, as far as that tells readings.
+-- A walk over these readings knows a standing: its committed store and next task, the records of its sites, of which there are at
+-- most 128, and how often each peripheral was issued, as far as that tells readings.
 pub record Knows (feeds : List Feed) (w : Walking) (s : Standing) : Type 0 where
   pub readings : w.feeds ≡ feeds
   pub committed : s.committed ≡ w.committed
   pub next : s.next ≡ w.next
-  pub records : (k : ℕ) → k < length w.records → record_at k w.records ≡ option_map kept_of (s.account.records k)
+  pub sites : length w.records ≡ 129
+  pub records : (k : ℕ) → k < 129 → record_at k w.records ≡ option_map kept_of (s.account.records k)
   pub peripherals : length w.issued ≡ 256
   pub issued : (p : ℕ) → p < 256 → count_of p w ≡ min (s.account.issued p) (length (values_in w.feeds p))
 

@@ -123,13 +123,7 @@ pub fn is_issue(e: &ReportEvent, site: u32, p: u32, args: &[u32], reading: u32) 
 }
 
 /// Whether a site copies so many words.
-pub fn is_copy(
-    e: &ReportEvent,
-    site: u32,
-    from: ReportPlace,
-    to: ReportPlace,
-    words: u32,
-) -> bool
+pub fn is_copy(e: &ReportEvent, site: u32, from: ReportPlace, to: ReportPlace, words: u32) -> bool
     ensures { result ≡ same (event_of e.now) (copies site (place_of from) (place_of to) words) }
 {
     match e {

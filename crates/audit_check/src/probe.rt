@@ -1,8 +1,0 @@
-//! A probe.
-ghost use Rattle.std.specs.Prelude.{◌≡◌};
-
-pub fn probe() -> u32
-    ensures { result ≡ 1 }
-{
-    1
-}
