@@ -20,7 +20,6 @@ use Rattle.task_attempts.specs.Journals.{all_events, cuts_of, looks_of}
 use Rattle.task_attempts.specs.Sound.{IsLegal}
 use Rattle.audit_check.specs.Journal.{journal_of}
 use Rattle.audit_check.specs.Lines.{front}
-use Rattle.audit_check.specs.Fits.{BootsFit}
 use Rattle.audit_check.specs.Allowed.{IsAllowed}
 use denote.Hole.Carrier.{hidden}
 

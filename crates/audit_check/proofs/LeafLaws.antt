@@ -1,5 +1,5 @@
 -- Drops, seals, looks, issues and kept values go along the rules, and so does what is valued.
-use Rattle.std.proofs.Common.{◌≡◌, ◌≢◌, ℕ, zero, suc, ◌+◌, ◌<◌, ◌==◌, min, Bool, true, false, cond, List, [], ◌∷◌, ◌++◌, length, drop, slice_set, slice_index_or, filter, Option, Some, None, Result, Ok, Err, refl, sym, ap, ◌∙◌, subst, arith, get_or-set_same, get_or-set_other, length-set}
+use Rattle.std.proofs.Common.{◌≡◌, ℕ, zero, suc, ◌+◌, ◌<◌, ◌==◌, min, Bool, true, false, cond, List, [], ◌∷◌, length, slice_set, slice_index_or, filter, Option, Some, None, Err, refl, sym, ap, ◌∙◌, subst, arith, get_or-set_same, get_or-set_other, length-set}
 use Rattle.std.proofs.lemmas.Bool.{false≢true}
 use Rattle.std.proofs.lemmas.Bool.Decides.{nat_tests}
 use Rattle.std.specs.List.{range_with_len}
@@ -11,24 +11,23 @@ use Rattle.devices.specs.declared.world.Feed.{Feed}
 use Rattle.devices.specs.Reading.{values_in, reading, reading_in}
 use Rattle.devices.specs.ReadingLaws.{reading_kept, count_kept}
 use Rattle.devices.specs.Readings.{one_more}
-use Rattle.devices.specs.Journal.{JournalEvent, begins, looks, keeps, drops, issues, seals, copies, commits, traps}
-use Rattle.task_attempts.specs.State.{Setting, Record, Standing, Here, Followed, Logged, Log, Rest}
-use Rattle.task_attempts.specs.Changes.{put, with_looks, with_record, with_issue, spent}
-use Rattle.task_attempts.specs.Told.{logged, told, drop_one, drop_all, seal, look, next_look}
+use Rattle.devices.specs.Journal.{begins, looks, keeps, drops, issues, seals, copies, commits, traps}
+use Rattle.task_attempts.specs.State.{Setting, Record, Standing, Here, Logged, Rest}
+use Rattle.task_attempts.specs.Changes.{with_record, with_issue, spent}
+use Rattle.task_attempts.specs.Told.{logged, drop_one, drop_all, seal, look, next_look}
 use Rattle.task_attempts.specs.Calls.{issue}
-use Rattle.task_attempts.specs.Values.{value, values}
-use Rattle.task_attempts.specs.Journals.{look_time}
+use Rattle.task_attempts.specs.Values.{value}
 use Rattle.audit_check.specs.declared.journal.ReportEvent.{ReportEvent}
 use Rattle.audit_check.specs.declared.journal.ReportEvent.TheVariants as event
 use Rattle.audit_check.specs.declared.journal.TimedEvent.{TimedEvent}
 use Rattle.audit_check.specs.declared.walking.Kept.{Kept}
 use Rattle.audit_check.specs.Journal.{place_of, event_of}
-use Rattle.audit_check.specs.Same.{first_of, second_of}
+use Rattle.audit_check.specs.Same.{first_of}
 use Rattle.audit_check.proofs.SameLaws.{itself, equal}
-use Rattle.audit_check.specs.Leads.{Awaited, End, IsNext, Leads, Reached, first_event, Differs}
-use Rattle.audit_check.specs.Walking.{Walking, Moved, Way, moved, chain, taken, looked_of, looked_in, looked, record_at, with_kept, dropped, dropped_if, dropped_from, sealed, count_of, next_reading, with_count, issued_now, found, word, words_behind}
-use Rattle.audit_check.specs.Tracks.{events, kept_of, Knows, IsAt, from_here, Onward, Follows, Tracks}
-use Rattle.audit_check.proofs.TrackLaws.{at_once, logs, told_tracks, found_tracks, tracks_then, some_is, other_event}
+use Rattle.audit_check.specs.Leads.{IsNext, Reached}
+use Rattle.audit_check.specs.Walking.{Walking, Way, moved, chain, taken, looked_of, looked_in, looked, record_at, with_kept, dropped, dropped_if, dropped_from, sealed, count_of, next_reading, with_count, issued_now, found, word}
+use Rattle.audit_check.specs.Tracks.{events, kept_of, Knows, IsAt, from_here, Follows, Tracks}
+use Rattle.audit_check.proofs.TrackLaws.{at_once, told_tracks, found_tracks, tracks_then, some_is, other_event}
 
 -- ---- records
 

@@ -1,11 +1,11 @@
 -- Steps one behind another go along parts of the rules one behind another; and single events do.
-use Rattle.std.proofs.Common.{◌≡◌, ◌≢◌, ℕ, zero, suc, ◌+◌, ◌<◌, ◌==◌, min, Bool, true, false, cond, List, [], ◌∷◌, ◌++◌, length, Option, Some, None, Result, Ok, Err, refl, sym, ap, ◌∙◌, subst, arith}
+use Rattle.std.proofs.Common.{◌≡◌, ◌≢◌, ℕ, zero, suc, ◌==◌, Bool, true, false, cond, List, [], ◌∷◌, ◌++◌, Option, Some, None, Result, Ok, Err, refl, sym, ap, ◌∙◌, subst, arith}
 use Rattle.std.proofs.lemmas.Bool.{false≢true}
 use Rattle.walk_run.specs.declared.trap.Trap.{Trap}
 use Rattle.walk_run.specs.Trap.{code_of}
 use Rattle.devices.specs.declared.world.Feed.{Feed}
-use Rattle.devices.specs.Journal.{JournalEvent, begins, looks, keeps, drops, issues, seals, copies, commits, traps}
-use Rattle.task_attempts.specs.State.{Standing, Here, Followed, Logged, Log, Rest}
+use Rattle.devices.specs.Journal.{JournalEvent, traps}
+use Rattle.task_attempts.specs.State.{Standing, Here, Followed, Logged, Rest}
 use Rattle.task_attempts.specs.Changes.{with_looks}
 use Rattle.task_attempts.specs.Told.{logged, trap, unless_trap}
 use Rattle.task_attempts.specs.Journals.{look_time}
@@ -13,8 +13,8 @@ use Rattle.audit_check.specs.declared.journal.TimedEvent.{TimedEvent}
 use Rattle.audit_check.specs.Journal.{event_of}
 use Rattle.audit_check.specs.Same.{kind_of, same}
 use Rattle.audit_check.specs.Leads.{Awaited, End, IsNext, Leads, Reached, first_event, Differs}
-use Rattle.audit_check.specs.Walking.{Walking, Moved, Way, moved, chain, left_by, taken_of, taken, trapped_by, found}
-use Rattle.audit_check.specs.Tracks.{events, Knows, IsAt, from_here, Onward, Follows, Tracks}
+use Rattle.audit_check.specs.Walking.{Walking, Way, moved, chain, left_by, taken_of, taken, trapped_by, found}
+use Rattle.audit_check.specs.Tracks.{events, Knows, IsAt, from_here, Follows, Tracks}
 use Rattle.audit_check.proofs.SameLaws.{itself, same_is, is_same}
 
 -- ---- one behind another

@@ -1,5 +1,5 @@
 -- How many lines of a journal fit, line by line.
-use Rattle.std.specs.Prelude.{ℕ, suc, ◌+◌, ◌-◌, min, Bool, true, false, ◌&&◌, not, ◌==◌, nat_lt, nat_le, if◌then◌else◌, List, [], ◌∷◌, length}
+use Rattle.std.specs.Prelude.{ℕ, ◌+◌, ◌-◌, min, Bool, true, false, ◌&&◌, not, ◌==◌, nat_lt, nat_le, if◌then◌else◌, List, [], ◌∷◌}
 use Rattle.devices.specs.declared.world.PowerRow.{PowerRow}
 use Rattle.audit_check.specs.declared.journal.ReportEvent.{ReportEvent}
 use Rattle.audit_check.specs.declared.journal.ReportEvent.TheVariants as event

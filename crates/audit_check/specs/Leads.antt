@@ -2,7 +2,7 @@
 -- the looks that are still to come, since a look's time is the journal's own.
 use Rattle.std.specs.Prelude.{◌≡◌, ◌≢◌, ⊤, ℕ, zero, suc, List, [], ◌∷◌, ◌++◌, Option, Some, None}
 use Rattle.devices.specs.Journal.{JournalEvent}
-use Rattle.task_attempts.specs.State.{Account, Standing, Here, Logged, Log}
+use Rattle.task_attempts.specs.State.{Standing, Logged, Log}
 use Rattle.task_attempts.specs.Journals.{look_time}
 
 -- a log by the looks that are still to come

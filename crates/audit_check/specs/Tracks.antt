@@ -1,5 +1,5 @@
 -- What a walk knows of the standing, and when a step of it goes along what the rules say.
-use Rattle.std.specs.Prelude.{◌≡◌, ℕ, ◌<◌, min, List, length, map, Option, Some, None, Result, Ok, Err}
+use Rattle.std.specs.Prelude.{◌≡◌, ℕ, ◌<◌, min, List, length, map, Ok, Err}
 use Rattle.std.specs.Option.{option_map}
 use Rattle.devices.specs.declared.world.Feed.{Feed}
 use Rattle.devices.specs.Reading.{values_in}
@@ -11,7 +11,7 @@ use Rattle.audit_check.specs.declared.walking.Kept.{Kept}
 use Rattle.audit_check.specs.declared.walking.Kept.TheVariants as kept
 use Rattle.audit_check.specs.Journal.{event_of}
 use Rattle.audit_check.specs.Leads.{Awaited, End, Reached, Differs}
-use Rattle.audit_check.specs.Walking.{Walking, Moved, Way, record_at, count_of}
+use Rattle.audit_check.specs.Walking.{Walking, Way, record_at, count_of}
 
 -- events without their steps
 abbrev pub events : List TimedEvent → List JournalEvent

@@ -1,21 +1,19 @@
 -- The walk of a boot's events beside the rules: what is known, and what one event does to it. A step gives a value and the walk
 -- behind it, or the walk where the rules' log and the events part, or where the events end.
-use Rattle.std.specs.Prelude.{◌≡◌, ⊤, ℕ, zero, suc, ◌+◌, ◌-◌, ◌==◌, Bool, if◌then◌else◌, List, [], ◌∷◌, ◌++◌, length, slice_set, slice_index_or, Option, Some, None, Result, Ok, Err}
+use Rattle.std.specs.Prelude.{◌≡◌, ⊤, ℕ, zero, suc, ◌+◌, ◌==◌, Bool, if◌then◌else◌, List, [], ◌∷◌, ◌++◌, slice_set, slice_index_or, Option, Some, None, Result, Ok, Err}
 use Rattle.task_ast.specs.declared.core_form.CoreExpr.{CoreExpr}
 use Rattle.task_ast.specs.declared.core_form.CoreTarget.{CoreTarget}
 use Rattle.task_ast.specs.declared.core_form.CoreEnd.{CoreEnd}
-use Rattle.task_ast.specs.declared.core_form.CoreExit.{CoreExit}
 use Rattle.io_annot.specs.declared.choice.Mode.{Mode}
 use Rattle.walk_run.specs.declared.trap.Trap.{Trap}
 use Rattle.walk_run.specs.declared.place.Place.{Place}
 use Rattle.walk_run.specs.Trap.{code_of}
 use Rattle.walk_run.specs.Store.{Store, put_word}
 use Rattle.walk_run.specs.Value.{value_of, target_place, end_place, with_room}
-use Rattle.walk_run.specs.Plain.{chosen}
 use Rattle.devices.specs.declared.world.Feed.{Feed}
 use Rattle.devices.specs.Reading.{reading, values_in}
 use Rattle.devices.specs.Readings.{one_more}
-use Rattle.devices.specs.Journal.{JournalEvent, looks, drops, issues, seals, traps}
+use Rattle.devices.specs.Journal.{JournalEvent, drops, issues, seals, traps}
 use Rattle.audit_check.specs.declared.journal.ReportEvent.{ReportEvent}
 use Rattle.audit_check.specs.declared.journal.ReportEvent.TheVariants as event
 use Rattle.audit_check.specs.declared.journal.TimedEvent.{TimedEvent}
