@@ -1,0 +1,5 @@
+mod AllowedRows
+mod FittingLaws
+mod LeafLaws
+mod SameLaws
+mod TrackLaws

@@ -1,0 +1,6 @@
+-- The feeds that are left.
+use Rattle.std.proofs.Common.{length}
+use Rattle.audit_check.proofs.walking.+values_of.Given as goal
+
+abbrev pub decreases-values_of : goal.decreases-values_of
+decreases-values_of l = length l.feeds.now

@@ -1,0 +1,43 @@
+//! What holds of a walk beside the rules, as the contracts of functions that do nothing.
+ghost use Rattle.std.specs.Prelude.{◌≡◌, ◌<◌, ℕ, List, Bool, filter};
+ghost use Rattle.std.specs.List.{range_with_len};
+ghost use Rattle.task_ast.specs.declared.core_form.CoreExpr.{CoreExpr};
+ghost use Rattle.task_attempts.specs.State.{Setting, Record};
+ghost use Rattle.task_attempts.specs.Told.{drop_one, drop_all, seal, look};
+ghost use Rattle.task_attempts.specs.Values.{value};
+ghost use Rattle.task_attempts.specs.Calls.{issue};
+ghost use Rattle.audit_check.specs.Tracks.{Tracks, kept_of};
+ghost use Rattle.audit_check.specs.Walking.{dropped, dropped_from, sealed, looked, issued_now, word};
+
+use devices::Feed;
+
+/// A record is dropped as the rules drop it.
+pub fn a_drop_goes_along(feeds: &[Feed])
+    ensures { (k : ℕ) → Tracks feeds.now (λ go. drop_one k (go tt)) (dropped k) }
+{}
+
+/// Records are dropped one after another as the rules drop them.
+pub fn drops_go_along(feeds: &[Feed])
+    ensures { (wanted : ℕ → Bool) (k left : ℕ) → Tracks feeds.now (λ go. drop_all (filter wanted (range_with_len k left)) (go tt)) (dropped_from wanted k left) }
+{}
+
+/// A record is sealed as the rules seal it.
+pub fn a_seal_goes_along(feeds: &[Feed])
+    ensures { (k : ℕ) (r : Record) → Tracks feeds.now (λ go. seal k r (go tt)) (sealed k (kept_of r)) }
+{}
+
+/// A site looks at the clock as the rules let it, at the time that the journal tells.
+pub fn a_look_goes_along(feeds: &[Feed])
+    ensures { (k : ℕ) → Tracks feeds.now (λ go. look k go) (looked k) }
+{}
+
+/// A peripheral is issued as the rules issue it, and gives the reading that they give.
+pub fn an_issue_goes_along(feeds: &[Feed])
+    ensures { (setting : Setting) (k p : ℕ) (args : List ℕ) → p < 256 → setting.rules.world.feeds ≡ feeds.now
+        → Tracks feeds.now (λ go. issue setting k p args go) (issued_now k p args) }
+{}
+
+/// A word is valued as the rules value it, or its trap ends the boot.
+pub fn a_word_goes_along(feeds: &[Feed])
+    ensures { (e : CoreExpr) → Tracks feeds.now (λ go. value e go) (word e) }
+{}
