@@ -1,3 +1,4 @@
+pub mod Calls
 pub mod Choices
 pub mod Commits
 pub mod Copies
@@ -8,3 +9,6 @@ pub mod Places
 pub mod Records
 pub mod Regions
 pub mod Simple
+pub mod Statements
+pub mod Stores
+pub mod Writing
