@@ -1,3 +1,4 @@
+pub mod Begins
 pub mod Calls
 pub mod Choices
 pub mod Commits
@@ -9,6 +10,7 @@ pub mod Places
 pub mod Records
 pub mod Regions
 pub mod Simple
+pub mod Starts
 pub mod Statements
 pub mod Stores
 pub mod Writing

@@ -37,7 +37,7 @@ use act_laws::{
     a_copy_goes_by_its_class, a_copy_is_sealed, a_kept_word_is_taken, a_lock_is_set,
     a_look_keeps_the_time, a_record_is_dropped, a_region_is_restored, a_region_is_saved,
     a_statement_stays_within_its_weight, a_test_goes_by_its_word, a_word_is_written,
-    a_word_without_a_target_is_not_written, an_instance_is_committed,
+    a_word_without_a_target_is_not_written, an_attempt_begins, an_instance_is_committed,
 };
 use cell_laws::a_commit_is_one_word;
 use layout_laws::{
@@ -252,4 +252,13 @@ pub fn a_word_without_a_target_is_not_written_as_planned()
         → DoesAct p place_of d number keeps (act.Write k) (HasAim false) }
 {
     a_word_without_a_target_is_not_written();
+}
+
+/// That of an attempt's beginning does, under `undo`: it shows its event, and behind it RAM stands for volatile words as they are
+/// declared, pointers at nothing, and the mode Own.
+pub fn an_attempt_begins_as_planned()
+    ensures { (p : Program) (place_of : ℕ → Place) (d : Doing) (number : ℕ) (keeps : Bool) (task : ℕ) → d.scheme ≡ Undo → DoesAct p place_of d number keeps (act.Begin task) Nothing }
+{
+    an_attempt_begins();
+    same_fram_keeps_cells();
 }

@@ -16,7 +16,8 @@ pub use laws::{
     a_kept_word_is_taken_as_planned, a_lock_is_set_as_planned, a_look_is_as_planned,
     a_record_is_dropped_as_planned, a_region_is_restored_as_planned, a_region_is_saved_as_planned,
     a_statement_is_done_as_planned, a_test_goes_as_planned, a_word_is_written_as_planned,
-    a_word_without_a_target_is_not_written_as_planned, an_instance_is_committed_as_planned,
+    a_word_without_a_target_is_not_written_as_planned, an_attempt_begins_as_planned,
+    an_instance_is_committed_as_planned,
 };
 pub use memory::{
     a_note_keeps_memory, a_target_keeps_memory, a_write_keeps_memory, arguments_keep_memory,
