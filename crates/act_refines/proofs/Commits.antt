@@ -89,7 +89,7 @@ other_here f Nv n h o is = absurd (omega (arith, is))
 other_here f Const n h o is = refl
 other_here f Vol n h o is = absurd (omega (arith, is))
 
-home_here : (f : Free) (k : Kind) (n : ℕ) (h o : List ℕ) → (area_of f k n).base ≡ 14 → of_home k h o ≡ h
+pub home_here : (f : Free) (k : Kind) (n : ℕ) (h o : List ℕ) → (area_of f k n).base ≡ 14 → of_home k h o ≡ h
 home_here f Nv n h o is = refl
 home_here f Const n h o is = absurd (omega (arith, is))
 home_here f Vol n h o is = absurd (omega (arith, is))
@@ -102,7 +102,7 @@ joined_other f (x ∷ arrays) (h ∷ homes) [] a one two is = absurd (omega (ari
 joined_other f (x ∷ arrays) (h ∷ homes) (o ∷ others) zero one two is = other_here f x.kind (length x.first) h o is
 joined_other f (x ∷ arrays) (h ∷ homes) (o ∷ others) (suc a) one two is = joined_other (free_of f x.kind (length x.first)) arrays homes others a (omega (arith, one)) (omega (arith, two)) is
 
-joined_home : (f : Free) (arrays : List Array) (homes others : List (List ℕ)) (a : ℕ) → length homes ≡ length arrays → length others ≡ length arrays → (area_at (areas_from f arrays) a).base ≡ 14
+pub joined_home : (f : Free) (arrays : List Array) (homes others : List (List ℕ)) (a : ℕ) → length homes ≡ length arrays → length others ≡ length arrays → (area_at (areas_from f arrays) a).base ≡ 14
     → slice_index_or (joined arrays homes others) a [] ≡ slice_index_or homes a []
 joined_home f [] homes others zero one two is = absurd (omega (arith, is))
 joined_home f [] homes others (suc a) one two is = absurd (omega (arith, is))
@@ -111,14 +111,14 @@ joined_home f (x ∷ arrays) (h ∷ homes) [] a one two is = absurd (omega (arit
 joined_home f (x ∷ arrays) (h ∷ homes) (o ∷ others) zero one two is = home_here f x.kind (length x.first) h o is
 joined_home f (x ∷ arrays) (h ∷ homes) (o ∷ others) (suc a) one two is = joined_home (free_of f x.kind (length x.first)) arrays homes others a (omega (arith, one)) (omega (arith, two)) is
 
-joined_long : (arrays : List Array) (homes others : List (List ℕ)) → length homes ≡ length arrays → length others ≡ length arrays → length (joined arrays homes others) ≡ length arrays
+pub joined_long : (arrays : List Array) (homes others : List (List ℕ)) → length homes ≡ length arrays → length others ≡ length arrays → length (joined arrays homes others) ≡ length arrays
 joined_long [] homes others one two = two
 joined_long (x ∷ arrays) [] others one two = absurd (omega (arith, one))
 joined_long (x ∷ arrays) (h ∷ homes) [] one two = absurd (omega (arith, two))
 joined_long (x ∷ arrays) (h ∷ homes) (o ∷ others) one two = omega (arith, joined_long arrays homes others (omega (arith, one)) (omega (arith, two)))
 
 -- words that are those of another store are whole where those are
-whole_like : (c : Core) (old new : Store) → ((a : ℕ) → base_at (layout_of c 0) a ≡ 14 → words_of new a ≡ words_of old a) → AreWhole c 14 old → AreWhole c 14 new
+pub whole_like : (c : Core) (old new : Store) → ((a : ℕ) → base_at (layout_of c 0) a ≡ 14 → words_of new a ≡ words_of old a) → AreWhole c 14 old → AreWhole c 14 new
 whole_like c old new same h = record {
   rooms = λ a is. ap length (same a is) ∙ h.rooms a is;
   fits = λ at here. subst (λ (ws : List ℕ). slice_index ws at.index < 2 ^ 32) (sym (same at.array here.counts)) (h.fits at here);

@@ -13,11 +13,19 @@ use Rattle.word_isa.specs.declared.parts.Scheme.{Scheme}
 use Rattle.word_machine.specs.State.{Program}
 use Rattle.run_plan.specs.Cells.{Cells, CellWrite, Frame, State, after_write, with_cells, with_words, puts_home, puts_aside, puts_lock, puts_flag, puts_value, puts_stamp, puts_class, puts_to, puts_from, puts_length, puts_kept, puts_state}
 use Rattle.run_plan.specs.Small.{Doing, core_of}
-use Rattle.cell_laws.specs.Standing.{Fits, HaveHomes, IsSite, Stands, address_of, word_of, worked}
-use Rattle.ram_laws.specs.Ram.{AreWhole, HasConstants, HasRam, IsPlaceOf, RamStands}
+use Rattle.act_laws.specs.Values.{with_arguments}
+use Rattle.line_laws.specs.Gives.{is_temp}
+use Rattle.line_laws.specs.Relation.{Related, base_at, room_at}
+use Rattle.layout_laws.specs.Layouts.{layout_of}
+use Rattle.cell_laws.specs.Standing.{Fits, HasHomes, HaveHomes, IsSite, Stands, address_in, address_of, word_of, worked}
+use Rattle.ram_laws.specs.Ram.{AreWhole, HasBases, HasConstants, HasRam, IsPlaceOf, RamStands}
+use Rattle.ram_laws.proofs.Calling.{frame_aimless, fram_stays}
 use Rattle.cell_laws.proofs.Puts.{miss}
+use Rattle.cell_laws.proofs.Writes.{worked_low}
+use Rattle.std.proofs.lemmas.Bool.Decides.{nat_tests}
+use Rattle.word_machine.specs.Straight.{Spot}
 use Rattle.ram_laws.specs.Notes.{Note, NoteFits, after_note, cell_of, noted_word, notes_mode, notes_time, notes_word, notes_outer, notes_begun}
-use Rattle.act_refines.specs.Between.{AreWords, HasReadings, IfBegun, IsTidy, MemoryStands, WordFits, with_rest}
+use Rattle.act_refines.specs.Between.{AreRelated, AreWords, HasReadings, IfBegun, IsTidy, MemoryStands, WordFits, with_rest}
 
 -- ---- what a state keeps of itself
 
@@ -189,3 +197,67 @@ note_keeps cells constants notes p d m counts later s looks issued note well h f
     memory_noted cells constants p d true m (put m (cell_of note) (noted_word note)) counts later s (after_note note s.frame) looks issued well h
     (λ a low. miss m (cell_of note) (noted_word note) a (λ e. absurd (omega (arith, note_far note, low, e))))
     (notes (core_of d) (worked d.scheme s.bank) m s.store s.frame note well h.ram fit) readings
+
+-- ---- what is valued
+
+is_ram : (a : ℕ) → 1048608 ≤ a → is_temp 0 a ≡ false
+is_ram a far = grind (arith, nat_tests, far)
+
+is_low : (a : ℕ) → a < 65536 → is_temp 0 a ≡ false
+is_low a low = grind (arith, nat_tests, low)
+
+abbrev TempsStay : Type 0
+TempsStay = (c : Core) (bank : ℕ) (m n : ℕ → ℕ) (store : Store) (f : Frame) → IsWellFormed c → HasRam c bank m store f → ((a : ℕ) → 1048608 ≤ a → n a ≡ m a) → HasRam c bank n store f
+
+pub temps_keep : CellsStay → SameConstants → TempsStay → (p : Program) (d : Doing) (m n counts : ℕ → ℕ) (s : State) → IsWellFormed (core_of d) → MemoryStands p d true m counts s → ((a : ℕ) → is_temp 0 a ≡ false → n a ≡ m a)
+    → MemoryStands p d true n counts s
+temps_keep cells constants temps p d m n counts s well h same =
+    memory_noted cells constants p d true m n counts counts s s.frame s.looks s.issued well h (λ a low. same a (is_low a low))
+    (temps (core_of d) (worked d.scheme s.bank) m n s.store s.frame well h.ram (λ a far. same a (is_ram a far))) h.readings
+
+abbrev MemoryIsRelated : Type 0
+MemoryIsRelated =
+    (c : Core) (bank : ℕ) (m : Spot) (store : Store) (f : Frame) → IsWellFormed c → bank ≤ 2048 → HasBases bank m → AreWhole c 14 store
+    → HasHomes c bank m.store (word_at store) → HasConstants c m.store store → HasRam c bank m.store store f → Related (layout_of c bank) (length c.pointers) m store
+
+pub related_there : MemoryIsRelated → (p : Program) (d : Doing) (m : Spot) (s : State) → IsWellFormed (core_of d) → AreRelated p d true m s → Related (layout_of (core_of d) (worked d.scheme s.bank)) (length (core_of d).pointers) m s.store
+related_there relates p d m s well h =
+    relates (core_of d) (worked d.scheme s.bank) m s.store s.frame well (worked_low d.scheme s.bank) (record { zero_is = h.fixed.0; bank_is = h.fixed.3; ram_is = h.fixed.4 }) h.memory.tidy.homes
+    h.memory.cells.store.homes h.memory.constants h.memory.ram
+
+abbrev ArgumentsStand : Type 0
+ArgumentsStand = (c : Core) (bank : ℕ) (m : ℕ → ℕ) (store : Store) (f : Frame) (words : List ℕ) → IsWellFormed c → HasRam c bank m store f → length words ≤ 4 → HasRam c bank (with_arguments words 33 m) store (record f { args = Some words })
+
+pub arguments_keep : CellsStay → SameConstants → ArgumentsStand → (p : Program) (d : Doing) (m counts : ℕ → ℕ) (s : State) (words : List ℕ) → IsWellFormed (core_of d) → MemoryStands p d true m counts s → length words ≤ 4
+    → MemoryStands p d true (with_arguments words 33 m) counts (with_rest (record s.frame { args = Some words }) s.looks s.issued s)
+arguments_keep cells constants arguments p d m counts s words well h few =
+    memory_noted cells constants p d true m (with_arguments words 33 m) counts counts s (record s.frame { args = Some words }) s.looks s.issued well h (fram_stays words m)
+    (arguments (core_of d) (worked d.scheme s.bank) m s.store s.frame words well h.ram few) h.readings
+
+abbrev TargetsStand : Type 0
+TargetsStand =
+    (c : Core) (bank : ℕ) (m : ℕ → ℕ) (store : Store) (f : Frame) (at : Place) → IsWellFormed c → HasRam c bank m store f → at.index < room_at (layout_of c bank) at.array → base_at (layout_of c bank) at.array ≢ 0
+    → HasRam c bank (put m 1048608 (address_in c bank at)) store (record f { target = Some (Some at) })
+
+pub target_keeps : CellsStay → SameConstants → TargetsStand → (p : Program) (d : Doing) (m counts : ℕ → ℕ) (s : State) (at : Place) → IsWellFormed (core_of d) → MemoryStands p d true m counts s
+    → at.index < room_at (layout_of (core_of d) (worked d.scheme s.bank)) at.array → base_at (layout_of (core_of d) (worked d.scheme s.bank)) at.array ≢ 0
+    → MemoryStands p d true (put m 1048608 (address_in (core_of d) (worked d.scheme s.bank) at)) counts (with_rest (record s.frame { target = Some (Some at) }) s.looks s.issued s)
+target_keeps cells constants targets p d m counts s at well h inside written =
+    let w : ℕ = address_in (core_of d) (worked d.scheme s.bank) at in
+    memory_noted cells constants p d true m (put m 1048608 w) counts counts s (record s.frame { target = Some (Some at) }) s.looks s.issued well h (λ a low. miss m 1048608 w a (λ e. absurd (omega (arith, low, e))))
+    (targets (core_of d) (worked d.scheme s.bank) m s.store s.frame at well h.ram inside written) h.readings
+
+pub no_target_keeps : CellsStay → SameConstants → (p : Program) (d : Doing) (m counts : ℕ → ℕ) (s : State) → IsWellFormed (core_of d) → MemoryStands p d true m counts s
+    → MemoryStands p d true m counts (with_rest (record s.frame { target = Some None }) s.looks s.issued s)
+no_target_keeps cells constants p d m counts s well h =
+    memory_noted cells constants p d true m m counts counts s (record s.frame { target = Some None }) s.looks s.issued well h (λ a low. refl)
+    (record { volatile = h.ram.volatile; pointers = h.ram.pointers; frame = frame_aimless (core_of d) (worked d.scheme s.bank) m s.frame h.ram.frame }) h.readings
+
+pub fram_keeps : CellsStay → SameConstants → (p : Program) (d : Doing) (m n counts : ℕ → ℕ) (s : State) → IsWellFormed (core_of d) → MemoryStands p d false m counts s → ((a : ℕ) → a < 65536 → n a ≡ m a) → MemoryStands p d false n counts s
+fram_keeps cells constants p d m n counts s well h same = record {
+  cells = cells (core_of d) d.scheme d.setting.task m n s well h.cells same;
+  constants = constants (core_of d) m n s.store well h.constants same;
+  ram = tt;
+  readings = h.readings;
+  tidy = h.tidy;
+}

@@ -1,3 +1,5 @@
+pub mod Begins
+pub mod Calls
 pub mod Choices
 pub mod Commits
 pub mod Copies
@@ -8,3 +10,7 @@ pub mod Places
 pub mod Records
 pub mod Regions
 pub mod Simple
+pub mod Starts
+pub mod Statements
+pub mod Stores
+pub mod Writing

@@ -17,6 +17,7 @@ use Rattle.line_code.specs.Lines.{bares}
 use Rattle.run_plan.specs.Words.{places_from, places_of}
 use Rattle.line_laws.specs.Relation.{base_at, base_word, from_at}
 use Rattle.word_code.specs.Beginnings.{AreLow}
+use Rattle.word_code.proofs.JobLemmas.{arrays_low}
 use Rattle.act_laws.specs.Blocks.{Copy, array_copies, copies, list_code, word_copies}
 use Rattle.layout_laws.specs.Layouts.{layout_of}
 use Rattle.cell_laws.specs.Standing.{IsHome, address_in, is_home}
@@ -95,27 +96,6 @@ code_long c from to (at ∷ places) = omega (arith, code_long c from to places)
 
 -- ---- all arrays lie low
 
-abbrev used : Free → ℕ
-used free = free.nv + free.constant + free.volatile
-
-place_low : (free : Free) (k : Kind) (n : ℕ) → used free + n ≤ 9026 → (area_of free k n).offset + (area_of free k n).room ≤ 9026
-place_low free Nv n few = omega (arith, few)
-place_low free Const n few = omega (arith, few)
-place_low free Vol n few = omega (arith, few)
-
-used_behind : (free : Free) (k : Kind) (n : ℕ) → used (free_of free k n) ≡ used free + n
-used_behind free Nv n = omega arith
-used_behind free Const n = omega arith
-used_behind free Vol n = omega arith
-
-low_from : (free : Free) (arrays : List Array) → used free + total arrays ≤ 9026 → AreLow (areas_from free arrays)
-low_from free [] few = tt
-low_from free (a ∷ rest) few =
-    let cons = sum_by-cons (λ (x : Array). length x.first) a rest in
-    let here : used free + length a.first ≤ 9026 = omega (arith, few, cons) in
-    let behind : used (free_of free a.kind (length a.first)) + total rest ≤ 9026 = omega (arith, few, cons, used_behind free a.kind (length a.first)) in
-    (place_low free a.kind (length a.first) here, low_from (free_of free a.kind (length a.first)) rest behind)
-
 sizes_here : (k : Kind) (n : ℕ) → fram_size k n + ram_size k n ≡ n
 sizes_here Nv n = omega arith
 sizes_here Const n = omega arith
@@ -126,5 +106,5 @@ sizes [] = refl
 sizes (a ∷ arrays) =
     omega (arith, sizes arrays, sizes_here a.kind (length a.first), sum_by-cons (λ a. fram_size a.kind (length a.first)) a arrays, sum_by-cons (λ a. ram_size a.kind (length a.first)) a arrays, sum_by-cons (λ (x : Array). length x.first) a arrays)
 
-pub arrays_low : (c : Core) → IsWellFormed c → AreLow (areas_from free_at_first c.arrays)
-arrays_low c well = low_from free_at_first c.arrays (omega (arith, sizes c.arrays, well.fram, well.ram))
+pub areas_low : (c : Core) → IsWellFormed c → AreLow (areas_from free_at_first c.arrays)
+areas_low c well = arrays_low c.arrays (omega (arith, sizes c.arrays, well.fram, well.ram))

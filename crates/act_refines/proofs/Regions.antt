@@ -35,7 +35,7 @@ use Rattle.act_refines.specs.Between.{AreRelated, IsTidy, MemoryStands, fixed_in
 use Rattle.act_refines.specs.Does.{AreHomes, DoesAct, Ends, Nothing, frame_of}
 use Rattle.act_refines.specs.Seen.{Seen, behind, puts, steps_seen, trace_seen}
 use Rattle.act_refines.proofs.Going.{goes_on, related_at}
-use Rattle.act_refines.proofs.Places.{AllHomes, all_long, arrays_are, arrays_low, code_long, copies_of, homes_all}
+use Rattle.act_refines.proofs.Places.{AllHomes, all_long, arrays_are, areas_low, code_long, copies_of, homes_all}
 use Rattle.act_refines.proofs.Simple.{WritesKeep}
 
 -- ---- words in a row
@@ -151,7 +151,7 @@ save_does template keep p place_of d number keeps r low undo homes next m s well
         let long : length (list_code copies cs) ≡ 2 * length places = code_long c (worked d.scheme s.bank) (beside d.scheme s.bank) places in
         let acts : Acts p (fixed_in d.scheme s) (length (list_code copies cs) + 5) (top (fixed_in d.scheme s) m) (record { pc = next; store = list_makes copies cs m.store; issued = m.issued; atoms = list_atoms copies cs m.store }) =
         subst (λ cs. Acts p (fixed_in d.scheme s) (length (list_code copies cs) + 5) (top (fixed_in d.scheme s) m) (record { pc = next; store = list_makes copies cs m.store; issued = m.issued; atoms = list_atoms copies cs m.store })) same
-        (template p (fixed_in d.scheme s) (frame_of d number) r next m false low (arrays_low c well) (flag ∙ held) has) in
+        (template p (fixed_in d.scheme s) (frame_of d number) r next m false low (areas_low c well) (flag ∙ held) has) in
         goes_on p place_of (fixed_in d.scheme s) (fixed_in d.scheme s) (length (list_code copies cs) + 5) _ m _ next _ _ related.fixed acts (omega (arith, long, all_long c (slice_index_or d.firsts r []))) refl moved.shown
         (λ there fixed stored issued. related_at p d true there (list_makes copies cs m.store) m.issued (behind c atoms s) (subst (λ x. HasFixed x there) (sym moved.fixed) fixed) stored issued moved.memory)
 
@@ -183,6 +183,6 @@ restore_does template keep p place_of d number keeps r low there_is undo homes n
         let long : length (list_code copies cs) ≡ 2 * length places = code_long c (beside d.scheme s.bank) (worked d.scheme s.bank) places in
         let acts : Acts p (fixed_in d.scheme s) (length (list_code copies cs) + 6) (top (fixed_in d.scheme s) m) (record { pc = next; store = list_makes copies cs m.store; issued = m.issued; atoms = list_atoms copies cs m.store }) =
         subst (λ cs. Acts p (fixed_in d.scheme s) (length (list_code copies cs) + 6) (top (fixed_in d.scheme s) m) (record { pc = next; store = list_makes copies cs m.store; issued = m.issued; atoms = list_atoms copies cs m.store })) same
-        (template p (fixed_in d.scheme s) (frame_of d number) r next m true low (arrays_low c well) (flag ∙ held) laid) in
+        (template p (fixed_in d.scheme s) (frame_of d number) r next m true low (areas_low c well) (flag ∙ held) laid) in
         goes_on p place_of (fixed_in d.scheme s) (fixed_in d.scheme s) (length (list_code copies cs) + 6) _ m _ next _ _ related.fixed acts (omega (arith, long, all_long c (slice_index_or d.firsts r []))) refl moved.shown
         (λ there fixed stored issued. related_at p d false there (list_makes copies cs m.store) m.issued (behind c atoms s) (subst (λ x. HasFixed x there) (sym moved.fixed) fixed) stored issued moved.memory)

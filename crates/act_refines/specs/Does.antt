@@ -1,10 +1,18 @@
 -- What it means that an act's code does its act.
-use Rattle.std.specs.Prelude.{List, ◌≡◌, ◌≢◌, ℕ, ◌+◌, ◌%◌, ◌^◌, ◌<◌, ◌≤◌, ⊤, Some, Bool, true, false, length}
+use Rattle.std.specs.Prelude.{List, ◌≡◌, ◌≢◌, ℕ, ◌+◌, ◌%◌, ◌^◌, ◌<◌, ◌≤◌, ⊤, Option, Some, None, Ok, Bool, true, false, length}
 use Rattle.std.specs.List.{AllByRecursion}
 use Rattle.devices.specs.Journal.{Place}
 use Rattle.task_ast.specs.declared.core_form.Core.{Core}
 use Rattle.task_ast.specs.declared.core_form.CoreTask.{CoreTask}
+use Rattle.task_ast.specs.declared.core_form.CoreTarget.{CoreTarget}
 use Rattle.task_ast.specs.WellFormed.{IsWellFormed}
+use Rattle.walk_run.specs.declared.place.Place as walked
+use Rattle.io_flow.specs.Written.{AllWithin}
+use Rattle.task_ast.specs.Pointing.{pointing}
+use Rattle.task_ast.specs.declared.core_form.CoreStmt.{CoreStmt}
+use Rattle.walk_run.specs.PlainSteps.{plain_steps}
+use Rattle.walk_run.specs.PlainWrites.{Write, plain_writes, points, sets}
+use Rattle.walk_run.specs.Value.{target_place}
 use Rattle.task_attempts.specs.Told.{next_look}
 use Rattle.walk_run.specs.Trap.{code_of}
 use Rattle.word_machine.specs.State.{Program}
@@ -20,6 +28,8 @@ use Rattle.run_plan.specs.Cells.{State}
 use Rattle.run_plan.specs.Deeds.{act_done}
 use Rattle.run_plan.specs.Small.{Doing, Done, Way, ahead, first_way, second_way, third_way, does, fails, stuck, core_of, flag_holds}
 use Rattle.run_plan.specs.Weights.{weight}
+use Rattle.layout_laws.specs.Layouts.{layout_of}
+use Rattle.line_laws.specs.Relation.{base_at, room_at}
 use Rattle.line_laws.specs.Standing.{Lie}
 use Rattle.word_code.specs.ActCode.{act_code, entry}
 use Rattle.word_code.specs.Frames.{Frame, site_at, stub_at}
@@ -137,3 +147,35 @@ IsAsKept keeps k m s = flag_holds s k ≡ keeps
 -- arrays of nonvolatile words that are written
 abbrev pub AreHomes : Core → List ℕ → Type 0
 AreHomes c arrays = AllByRecursion (λ a. is_home c a ≡ true) arrays
+
+-- a place that may be written: it is there, and no constant
+pub record IsWritable (c : Core) (at : walked.Place) : Type 0 where
+  pub inside : at.index < room_at (layout_of c 0) at.array
+  pub written : base_at (layout_of c 0) at.array ≢ 0
+
+-- so is the place of a target, where it has one
+abbrev pub AimsWell : Core → CoreTarget → Spot → State → Type 0
+AimsWell c target m s = (at : walked.Place) → target_place target s.store ≡ Ok at → IsWritable c at
+
+-- so many arguments were noted
+abbrev pub IsCalledWith : (count : ℕ) → Spot → State → Type 0
+IsCalledWith n m s = (words : List ℕ) → s.frame.args ≡ Some words → length words ≡ n
+
+-- a write that a statement may make: a word to a place that may be written, or a place to a pointer
+abbrev pub IsGoodWrite : Core → Write → Type 0
+IsGoodWrite c (sets at word) = IsWritable c at × (word < 2 ^ 32)
+IsGoodWrite c (points p at) = ⊤
+
+-- a statement takes a step, its pointers point where the task lets them, and it makes only such writes
+pub record StatementFits (d : Doing) (x : CoreStmt) (m : Spot) (s : State) : Type 0 where
+  pub some : 0 < plain_steps x s.store
+  pub within : AllWithin (pointing d.setting.task) s.store
+  pub well : AllByRecursion (IsGoodWrite (core_of d)) (plain_writes x s.store)
+
+-- whether a call that was valued has a target
+abbrev pub is_aimed : Option walked.Place → Bool
+is_aimed None = false
+is_aimed (Some at) = true
+
+abbrev pub HasAim : Bool → Spot → State → Type 0
+HasAim has m s = (o : Option walked.Place) → s.frame.target ≡ Some o → is_aimed o ≡ has

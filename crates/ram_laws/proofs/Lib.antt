@@ -1,3 +1,4 @@
+pub mod Calling
 pub mod CellsStay
 pub mod Noting
 pub mod Relating

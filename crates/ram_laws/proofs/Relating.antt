@@ -18,7 +18,7 @@ use Rattle.cell_laws.specs.Standing.{HasHomes, IsHome, address_in}
 use Rattle.ram_laws.specs.Ram.{AreWhole, HasArrays, HasBases, HasConstants, HasPointers, HasRam, IsPlaceOf}
 
 -- an array counts from register 14, 0 or 15
-data IsBase (r : ℕ) : Type 0 where
+pub data IsBase (r : ℕ) : Type 0 where
   of_homes : r ≡ 14 → IsBase r
   of_constants : r ≡ 0 → IsBase r
   of_volatile : r ≡ 15 → IsBase r
@@ -28,7 +28,7 @@ base_here f Nv n = of_homes refl
 base_here f Const n = of_constants refl
 base_here f Vol n = of_volatile refl
 
-base_in : (f : Free) (arrays : List Array) (n : ℕ) → IsBase (area_at (areas_from f arrays) n).base
+pub base_in : (f : Free) (arrays : List Array) (n : ℕ) → IsBase (area_at (areas_from f arrays) n).base
 base_in f [] zero = of_constants refl
 base_in f [] (suc n) = of_constants refl
 base_in f (a ∷ arrays) zero = base_here f a.kind (length a.first)

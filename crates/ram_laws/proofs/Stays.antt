@@ -36,7 +36,7 @@ AreSame m n from below = (a : ℕ) → from ≤ a → a < below → n a ≡ m a
 words_stay : (m n : ℕ → ℕ) (words : List ℕ) (cell : ℕ) → 1048609 ≤ cell → cell + length words ≤ 1048613 → AreSame m n 1048609 1048613 → HasWords words cell m → HasWords words cell n
 words_stay m n [] cell from few same h = tt
 words_stay m n (word ∷ words) cell from few same h =
-    (word_stays m n cell word (same cell from (omega (arith, few))) h.0, words_stay m n words (cell + 1) (omega (arith, from)) (omega (arith, few)) same h.1)
+    (same cell from (omega (arith, few)) ∙ h.0, words_stay m n words (cell + 1) (omega (arith, from)) (omega (arith, few)) same h.1)
 
 pub args_stay : (m n : ℕ → ℕ) (words : List ℕ) → AreSame m n 1048609 1048613 → HasArguments m words → HasArguments n words
 args_stay m n words same h = record { few = h.few; holds = words_stay m n words 1048609 (omega arith) (omega (arith, h.few)) same h.holds }

@@ -57,7 +57,7 @@ pub record HasTarget (c : Core) (bank : ℕ) (m : ℕ → ℕ) (at : Place) : Ty
 -- words from a cell on
 abbrev pub HasWords : List ℕ → (cell : ℕ) → (ℕ → ℕ) → Type 0
 HasWords [] cell m = Unit {0}
-HasWords (word ∷ words) cell m = HasWord m cell word × HasWords words (cell + 1) m
+HasWords (word ∷ words) cell m = (m cell ≡ word) × HasWords words (cell + 1) m
 
 -- the arguments of a call, of which there are at most four
 pub record HasArguments (m : ℕ → ℕ) (words : List ℕ) : Type 0 where

@@ -1,16 +1,18 @@
 //! What RAM and the constants have of a plan's state, as the contracts of functions that do nothing (docs/CODE.md, "What is
 //! proved").
-ghost use Rattle.std.specs.Prelude.{◌≡◌, ◌+◌, ◌≤◌, ◌<◌, ℕ, length};
-ghost use Rattle.cell_laws.specs.Standing.{Fits, HasHomes, Stands, address_of, word_of, worked};
+ghost use Rattle.std.specs.Prelude.{◌≡◌, ◌≢◌, ◌+◌, ◌≤◌, ◌<◌, ℕ, List, Some, length};
+ghost use Rattle.act_laws.specs.Values.{with_arguments};
+ghost use Rattle.cell_laws.specs.Standing.{Fits, HasHomes, Stands, address_in, address_of, word_of, worked};
 ghost use Rattle.fram_ram.specs.Memories.{put};
 ghost use Rattle.layout_laws.specs.Layouts.{layout_of};
-ghost use Rattle.line_laws.specs.Relation.{Related};
+ghost use Rattle.line_laws.specs.Relation.{Related, base_at, room_at};
 ghost use Rattle.ram_laws.specs.Notes.{Note, NoteFits, after_note, cell_of, noted_word};
 ghost use Rattle.ram_laws.specs.Ram.{AreWhole, HasBases, HasConstants, HasRam, RamStands};
 ghost use Rattle.run_plan.specs.Cells.{CellWrite, Frame, State, after_write};
 ghost use Rattle.task_ast.specs.WellFormed.{IsWellFormed};
 ghost use Rattle.task_ast.specs.declared.core_form.Core.{Core};
 ghost use Rattle.task_ast.specs.declared.core_form.CoreTask.{CoreTask};
+ghost use Rattle.walk_run.specs.declared.place.Place.{Place};
 ghost use Rattle.walk_run.specs.Store.{Store, word_at};
 ghost use Rattle.word_isa.specs.declared.parts.Scheme.{Scheme};
 ghost use Rattle.word_machine.specs.Straight.{Spot};
@@ -37,6 +39,22 @@ pub fn a_write_of_the_plan_leaves_ram()
 pub fn a_note_is_one_word()
     ensures { (c : Core) (bank : ℕ) (m : ℕ → ℕ) (store : Store) (f : Frame) (note : Note) → IsWellFormed c → HasRam c bank m store f → NoteFits note
         → HasRam c bank (put m (cell_of note) (noted_word note)) store (after_note note f) }
+{
+    each_place_lies_in_its_area();
+}
+
+/// The arguments of a call go to cells of their own, and behind them RAM has them and all that it had.
+pub fn arguments_are_noted()
+    ensures { (c : Core) (bank : ℕ) (m : ℕ → ℕ) (store : Store) (f : Frame) (words : List ℕ) → IsWellFormed c → HasRam c bank m store f → length words ≤ 4
+        → HasRam c bank (with_arguments words 33 m) store (record f { args = Some words }) }
+{
+    each_place_lies_in_its_area();
+}
+
+/// So does the address of a target, a place that may be written.
+pub fn a_target_is_noted()
+    ensures { (c : Core) (bank : ℕ) (m : ℕ → ℕ) (store : Store) (f : Frame) (at : Place) → IsWellFormed c → HasRam c bank m store f → at.index < room_at (layout_of c bank) at.array → base_at (layout_of c bank) at.array ≢ 0
+        → HasRam c bank (put m 1048608 (address_in c bank at)) store (record f { target = Some (Some at) }) }
 {
     each_place_lies_in_its_area();
 }
