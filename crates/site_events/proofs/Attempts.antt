@@ -1,4 +1,4 @@
--- An attempt of a task with calls and blocks tells what the rules say, from its beginning to its commit, and so do attempts
+-- An attempt of a task tells what the rules say, from its beginning to its commit, and so do attempts
 -- one after another.
 use Rattle.std.proofs.Common.{◌≡◌, ◌∙◌, ℕ, zero, suc, ◌+◌, ◌*◌, ◌≤◌, false, List, [], ◌∷◌, ◌++◌, length, map, get_or, slice_get, slice_index_or, refl, sym, ap, subst, arith}
 use Rattle.std.specs.Prelude.{⊤, Option, Some, None, sum_by}

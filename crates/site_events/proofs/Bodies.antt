@@ -1,4 +1,4 @@
--- The acts of statements with calls and blocks tell what the rules say of them, if what comes behind does.
+-- The acts of statements tell what the rules say of them, if what comes behind does.
 use Rattle.std.proofs.Common.{◌≡◌, ◌∙◌, ℕ, suc, ◌+◌, ◌<◌, ◌≤◌, Bool, true, false, ◌==◌, cond, List, [], ◌∷◌, ◌++◌, length, take, slice_get, slice_index_or, refl, sym, ap, subst, arith}
 use Rattle.std.specs.Prelude.{Option, Some, None, sum_by}
 use Rattle.std.specs.List.{AllByRecursion}

@@ -1,4 +1,4 @@
--- A boot of the plan of a program with calls and blocks tells what the rules say, wherever it is cut.
+-- A boot of the plan of a program tells what the rules say, wherever it is cut.
 use Rattle.std.proofs.Common.{◌≡◌, ◌∙◌, ℕ, zero, suc, ◌+◌, ◌-◌, ◌*◌, ◌<◌, ◌≤◌, Bool, true, false, cond, nat_lt, List, [], ◌∷◌, length, map, take, slice_get, refl, sym, ap, subst, arith, eqb-true}
 use Rattle.std.specs.Prelude.{Option, Some, None, min, sum_by}
 use Rattle.std.specs.List.{range_with_len}

@@ -1,4 +1,4 @@
--- The boots of the plan of a program with calls and blocks, one behind another: each tells what the rules say, from where
+-- The boots of the plan of a program, one behind another: each tells what the rules say, from where
 -- the one before left it.
 use Rattle.std.proofs.Common.{◌≡◌, ◌∙◌, ℕ, suc, ◌+◌, ◌≤◌, List, [], ◌∷◌, ◌++◌, length, map, take, refl, sym, ap, subst, arith, zero, slice_get, slice_index_or}
 use Rattle.std.specs.Prelude.{⊤, flat_map}
