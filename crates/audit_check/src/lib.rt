@@ -3,16 +3,19 @@
 //! statements and boots isn't here yet.
 #![tactic(auto)]
 
+mod around;
+mod calls;
 mod fitting;
 mod journal;
 mod laws;
 mod same;
 mod walking;
 
+pub use around::{Around, annotation_at, decide_at, enter_at, memory_at, number_at};
 pub use fitting::fitting_lines;
 pub use journal::{ReportBoot, ReportEvent, ReportPlace, TimedEvent};
 pub use laws::{
-    a_drop_goes_along, a_look_goes_along, a_seal_goes_along, a_word_goes_along,
-    an_issue_goes_along, drops_go_along,
+    a_block_goes_along, a_call_goes_along, a_drop_goes_along, a_look_goes_along,
+    a_seal_goes_along, a_word_goes_along, an_issue_goes_along, drops_go_along,
 };
 pub use walking::{Kept, Stop, Walking};
