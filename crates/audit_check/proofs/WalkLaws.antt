@@ -1,12 +1,9 @@
 -- Calls, blocks, copies, statements and attempts go along the rules.
-use Rattle.std.proofs.Common.{◌≡◌, ◌≢◌, ℕ, zero, suc, ◌+◌, ◌-◌, ◌<◌, ◌≤◌, ◌==◌, min, Bool, true, false, cond, List, [], ◌∷◌, ◌++◌, length, take, drop, map, filter, slice_get, slice_index_or, Option, Some, None, Result, Ok, Err, refl, sym, ap, ◌∙◌, subst, arith, append_assoc, append-nil}
-use Rattle.std.specs.List.{AllByRecursion, range_with_len}
+use Rattle.std.proofs.Common.{◌≡◌, ℕ, ◌<◌, min, List, [], ◌∷◌, ◌++◌, length, filter, slice_index_or, Option, Some, None, Result, Ok, Err, refl, sym, ap, ◌∙◌, subst, append_assoc, append-nil}
+use Rattle.std.specs.List.{range_with_len}
 use Rattle.std.specs.Option.{option_map}
 use Rattle.task_ast.specs.declared.core_form.CoreExpr.{CoreExpr}
 use Rattle.task_ast.specs.declared.core_form.CoreTarget.{CoreTarget}
-use Rattle.task_ast.specs.declared.core_form.CoreEnd.{CoreEnd}
-use Rattle.task_ast.specs.declared.core_form.CoreTask.{CoreTask}
-use Rattle.task_ast.specs.CoreSites.{site_numbers, row_numbers, all_numbers}
 use Rattle.io_annot.specs.declared.choice.Mode.{Mode}
 use Rattle.io_annot.specs.declared.choice.Mode.TheVariants as mode
 use Rattle.io_annot.specs.declared.choice.Choice.{Choice}
@@ -17,31 +14,29 @@ use Rattle.io_depend.specs.Told.{tells_later}
 use Rattle.walk_run.specs.declared.trap.Trap.{Trap}
 use Rattle.walk_run.specs.declared.place.Place.{Place}
 use Rattle.walk_run.specs.Store.{Store, put_word}
-use Rattle.walk_run.specs.Value.{value_of, target_place, end_place, with_room}
-use Rattle.walk_run.specs.PlainSteps.{expr_steps, target_steps, end_steps}
+use Rattle.walk_run.specs.Value.{target_place}
+use Rattle.walk_run.specs.PlainSteps.{target_steps}
 use Rattle.block_scope.specs.Enter.{entered}
 use Rattle.devices.specs.Reading.{values_in}
 use Rattle.devices.specs.declared.world.Feed.{Feed}
 use Rattle.devices.specs.declared.world.World.{World}
-use Rattle.devices.specs.Journal.{JournalEvent, begins, keeps, drops, issues, seals, copies, commits, traps}
-use Rattle.task_attempts.specs.State.{Setting, Record, of_reading, of_block, of_copy, Standing, Here, Followed, arguments, Rest}
+use Rattle.devices.specs.Journal.{JournalEvent, keeps}
+use Rattle.task_attempts.specs.State.{Setting, Record, of_reading, of_block, of_copy, Standing, Here, arguments, Rest}
 use Rattle.task_attempts.specs.Changes as changes
 use Rattle.task_attempts.specs.Changes.{with_looks, spent}
 use Rattle.task_attempts.specs.Blocks as blocks
 use Rattle.task_attempts.specs.Blocks.{stamp_in}
 use Rattle.task_attempts.specs.Costs.{call_steps, block_steps}
-use Rattle.task_attempts.specs.Told.{told_following, drop_one, drop_all, seal, look, unless_trap}
-use Rattle.task_attempts.specs.Values.{value, values, reading_place, put_into, copy_end, tested}
+use Rattle.task_attempts.specs.Told.{drop_one, drop_all, seal, look, unless_trap}
+use Rattle.task_attempts.specs.Values.{value, values, reading_place, put_into}
 use Rattle.task_attempts.specs.Calls.{annotation, number_of, issue, issue_anew, kept_in, issued_with, by_choice, by_record, call_inside, call_log}
 use Rattle.audit_check.specs.declared.journal.TimedEvent.{TimedEvent}
-use Rattle.audit_check.specs.declared.walking.Kept.{Kept}
 use Rattle.audit_check.specs.declared.walking.Kept.TheVariants as kept
 use Rattle.audit_check.specs.declared.around.Around.{Around}
 use Rattle.audit_check.specs.Leads.{Awaited, Reached}
-use Rattle.audit_check.specs.Walking as steps
-use Rattle.audit_check.specs.Walking.{Walking, Moved, Way, moved, chain, taken, record_at, dropped, dropped_from, sealed, issued_now, looked, found, word, words_behind, reading_target, with_store, put_reading}
+use Rattle.audit_check.specs.Walking.{Walking, Way, moved, chain, record_at, dropped, dropped_from, sealed, issued_now, looked, found, word, words_behind, reading_target, with_store, put_reading}
 use Rattle.audit_check.specs.Walked.{setting_of, DropsRight, annotation_at, number_at, kept_reading, issued_anew, read_by, choice_of, call_walked, kept_stamp, with_mode, inside_of, block_sealed, block_ended, block_walked}
-use Rattle.audit_check.specs.Tracks.{events, kept_of, Knows, IsAt, from_here, Onward, Follows, Tracks}
+use Rattle.audit_check.specs.Tracks.{events, kept_of, Knows, IsAt, from_here, Follows, Tracks}
 use Rattle.audit_check.proofs.TrackLaws.{leads_then, behind, at_once, told_tracks, found_tracks, tracks_then}
 use Rattle.audit_check.proofs.LeafLaws.{dropped_tracks, sealed_tracks, dropped_from_tracks, looked_tracks, issued_tracks, word_tracks}
 
@@ -102,9 +97,9 @@ module _ (feeds : List Feed) where
   put_tracks (Some place) r w here s go at knows =
       let n = at.knows in
       let known : (store : Store) → Knows feeds (with_store store w) here.standing = λ store.
-          record { readings = n.readings; committed = n.committed; next = n.next; sites = n.sites; records = n.records; peripherals = n.peripherals; issued = n.issued } in
+      record { readings = n.readings; committed = n.committed; next = n.next; sites = n.sites; records = n.records; peripherals = n.peripherals; issued = n.issued } in
       let knows_still : Knows feeds (with_store (put_word place r w.store) w) s =
-          record { readings = knows.readings; committed = knows.committed; next = knows.next; sites = knows.sites; records = knows.records; peripherals = knows.peripherals; issued = knows.issued } in
+      record { readings = knows.readings; committed = knows.committed; next = knows.next; sites = knows.sites; records = knows.records; peripherals = knows.peripherals; issued = knows.issued } in
       at_once feeds tt go w (with_store (put_word place r w.store) w) here (put_into (Some place) r here) s (from_here (go tt) (put_into (Some place) r here)) refl refl
       (record { knows = known (put_word place r w.store); store = ap (put_word place r) at.store; mode = at.mode }) knows_still
 
@@ -130,10 +125,10 @@ module _ (world : World) (a : Around) (numbers : (p : ℕ) → number_at a p < 2
       let issuing : Walking → Way ℕ = λ w. chain (issued_now k p args w) (λ r w. chain (sealed k (kept.Reading r t) w) (λ _ w. moved r w)) in
       let dropping : Walking → Way ℕ = λ w. chain (dropped_from wanted 1 n w) (λ _ w. issuing w) in
       let issues_on : Tracks world.feeds after issuing =
-          tracks_then world.feeds (λ go. issue S k p args go) (issued_now k p args) (λ r go. seal k (of_reading r t args) (go r)) (λ r w. chain (sealed k (kept.Reading r t) w) (λ _ w. moved r w))
-          (issued_tracks world.feeds S k p args few refl) (λ r. handed_on world.feeds (λ go. seal k (of_reading r t args) (go tt)) (sealed k (kept.Reading r t)) (λ _. r) (sealed_tracks world.feeds k (of_reading r t args))) in
+      tracks_then world.feeds (λ go. issue S k p args go) (issued_now k p args) (λ r go. seal k (of_reading r t args) (go r)) (λ r w. chain (sealed k (kept.Reading r t) w) (λ _ w. moved r w))
+      (issued_tracks world.feeds S k p args few refl) (λ r. handed_on world.feeds (λ go. seal k (of_reading r t args) (go tt)) (sealed k (kept.Reading r t)) (λ _. r) (sealed_tracks world.feeds k (of_reading r t args))) in
       let drops_on : Tracks world.feeds (λ go. drop_all (filter wanted (range_with_len 1 n)) (after go)) dropping =
-          tracks_then world.feeds (λ go. drop_all (filter wanted (range_with_len 1 n)) (go tt)) (dropped_from wanted 1 n) (λ _ go. after go) (λ _ w. issuing w) (dropped_from_tracks world.feeds wanted 1 n) (λ _. issues_on) in
+      tracks_then world.feeds (λ go. drop_all (filter wanted (range_with_len 1 n)) (go tt)) (dropped_from wanted 1 n) (λ _ go. after go) (λ _ w. issuing w) (dropped_from_tracks world.feeds wanted 1 n) (λ _. issues_on) in
       tracks_then world.feeds (λ go. drop_one k (go tt)) (dropped k) (λ _ go. drop_all (dependents a.task.now k) (after go)) (λ _ w. dropping w) (dropped_tracks world.feeds k)
       (λ _. subst (λ ks. Tracks world.feeds (λ go. drop_all ks (after go)) dropping) right drops_on)
 
@@ -230,8 +225,8 @@ module _ (world : World) (a : Around) where
       let same : m ≡ inside_of a k t w = λ i. entered (at.mode i) (annotation_at a k) (sym stamp i) t in
       let go_on : Unit {0} → (Unit {0} → Rest) → Rest = λ _ go. blocks.block_end k t outside m (go tt) in
       let first = tracks (with_mode m w) (changes.with_mode m here) s (λ x. go_on x go)
-          (record { knows = knows_as world.feeds w (with_mode m w) here.standing refl refl refl refl refl at.knows; store = at.store; mode = refl })
-          (knows_as world.feeds w (with_mode m w) s refl refl refl refl refl knows) in
+      (record { knows = knows_as world.feeds w (with_mode m w) here.standing refl refl refl refl refl at.knows; store = at.store; mode = refl })
+      (knows_as world.feeds w (with_mode m w) s refl refl refl refl refl knows) in
       let all = then_at world.feeds go_on (λ _ v. block_ended k t outside m v) go w s (from_here (blocks.block_inside (setting_of world a) k body (go tt) t) here) (step (with_mode m w)) first (λ _. block_end_tracks world.feeds k t outside m) in
       subst (λ m. Reached (events w.rest) s (from_here (blocks.block_inside (setting_of world a) k body (go tt) t) here) (Follows world.feeds (chain (step (with_mode m w)) (λ _ v. block_ended k t w.mode m v)) go)) same
       (subst (λ o. Reached (events w.rest) s (from_here (blocks.block_inside (setting_of world a) k body (go tt) t) here) (Follows world.feeds (chain (step (with_mode m w)) (λ _ v. block_ended k t o m v)) go)) at.mode all)

@@ -1,7 +1,6 @@
 -- What the methods of a walk need: sites by their places, and looks that lie behind a record's.
-use Rattle.std.proofs.Common.{◌≡◌, ℕ, zero, suc, ◌+◌, ◌-◌, ◌<◌, Bool, true, false, cond, nat_lt, List, [], ◌∷◌, Option, Some, None, ◌++◌, length, drop, get_or, Err, slice_get, refl, sym, ap, ◌∙◌, arith, not-suc-le-zero}
+use Rattle.std.proofs.Common.{◌≡◌, ℕ, zero, suc, ◌+◌, ◌-◌, ◌<◌, cond, List, [], ◌∷◌, Some, ◌++◌, length, drop, get_or, Err, slice_get, refl, sym, ap, ◌∙◌, arith}
 use Rattle.std.proofs.lemmas.List.{at_drop_more}
-use Rattle.std.proofs.lemmas.Bool.{false≢true}
 use Rattle.std.proofs.lemmas.Bool.Decides.{nat_tests}
 use Rattle.task_ast.specs.declared.tree.Ann.{Ann}
 use Rattle.task_ast.specs.declared.tree.Ann.TheVariants as ann
@@ -9,13 +8,13 @@ use Rattle.task_ast.specs.declared.core_form.Site.{Site}
 use Rattle.task_ast.specs.declared.core_form.CoreExpr.{CoreExpr}
 use Rattle.audit_check.specs.declared.walking.Stop.{Stop}
 use Rattle.audit_check.specs.declared.walking.Stop.TheVariants.{Parted, NoMemory}
-use Rattle.audit_check.specs.Walking.{Walking, Way, Gives, chain, dropped_if, dropped_from, word, words_behind}
+use Rattle.audit_check.specs.Walking.{Walking, Way, Gives, chain, word, words_behind}
 use Rattle.io_annot.specs.declared.choice.Mode.{Mode}
 use Rattle.io_annot.specs.declared.choice.Mode.TheVariants as mode
 use Rattle.io_annot.specs.declared.choice.Choice.{Choice}
 use Rattle.io_annot.specs.declared.choice.Choice.TheVariants as choices
-use Rattle.io_annot.specs.Choice.{choice, is_expired, own_choice}
-use Rattle.block_scope.specs.Enter.{entered, own_entered}
+use Rattle.io_annot.specs.Choice.{choice, is_expired}
+use Rattle.block_scope.specs.Enter.{entered}
 use Rattle.task_attempts.specs.Calls.{annotation_of, site_at}
 
 -- a site's place from 0
@@ -50,9 +49,3 @@ words_break whole words all i e w v Parted within is so_far stops =
     sym so_far ∙ at_drop_more (λ es. words_behind words es w) all i e within ∙ ap (λ x. words_behind words (x ∷ drop (i + 1) all) w) (sym is)
     ∙ ap (λ way. chain way (λ x w. words_behind (words ++ x ∷ []) (drop (i + 1) all) w)) stops
 words_break whole words all i e w v NoMemory within is so_far stops = tt
-
--- a drop that isn't there ends them all
-pub drops_break : (whole : Way (Unit {0})) (wanted : ℕ → Bool) (k left : ℕ) (w v : Walking) (why : Stop) → dropped_from wanted k left w ≡ whole → 0 < left → Gives (dropped_if (wanted k) k w) (Err why) v → Gives whole (Err why) v
-drops_break whole wanted k zero w v why so_far some stops = absurd (not-suc-le-zero some)
-drops_break whole wanted k (suc left) w v Parted so_far some stops = sym so_far ∙ ap (λ way. chain way (λ _ w. dropped_from wanted (k + 1) left w)) stops
-drops_break whole wanted k (suc left) w v NoMemory so_far some stops = tt

@@ -1,11 +1,10 @@
 -- The walk of a call, a block, a copy, a statement and an attempt.
-use Rattle.std.specs.Prelude.{◌≡◌, ℕ, zero, suc, ◌+◌, List, [], ◌∷◌, length, take, drop, Option, Some, None, Result, Ok, Err, slice_get, filter}
+use Rattle.std.specs.Prelude.{◌≡◌, ℕ, List, [], ◌∷◌, length, Option, Some, None, Err, slice_get, filter}
 use Rattle.std.specs.List.{range_with_len}
 use Rattle.task_ast.specs.declared.tree.Ann.{Ann}
 use Rattle.task_ast.specs.declared.core_form.CoreExpr.{CoreExpr}
 use Rattle.task_ast.specs.declared.core_form.CoreTarget.{CoreTarget}
 use Rattle.task_ast.specs.declared.core_form.CoreEnd.{CoreEnd}
-use Rattle.task_ast.specs.declared.core_form.CoreExit.{CoreExit}
 use Rattle.task_ast.specs.declared.core_form.CoreStmt.{CoreStmt, Row_of-CoreStmt, end_of-CoreStmt, more_of-CoreStmt}
 use Rattle.task_ast.specs.declared.core_form.CoreStmt.TheVariants as stmt
 use Rattle.io_annot.specs.declared.choice.Mode.{Mode}
@@ -21,7 +20,7 @@ use Rattle.region_split.specs.declared.class.DmaClass.{DmaClass}
 use Rattle.region_split.specs.declared.class.DmaClass.TheVariants as class
 use Rattle.region_split.specs.Class.{class_of}
 use Rattle.walk_run.specs.declared.place.Place.{Place}
-use Rattle.walk_run.specs.Store.{Store, fresh}
+use Rattle.walk_run.specs.Store.{fresh}
 use Rattle.walk_run.specs.Exits.{next_of}
 use Rattle.walk_run.specs.Plain.{Ran, done, trapped, chosen, plain_done}
 use Rattle.walk_run.specs.Walk.{move_words}
@@ -33,7 +32,7 @@ use Rattle.task_attempts.specs.Copies.{words_at, put_words, shown, memory_or_ram
 use Rattle.audit_check.specs.declared.walking.Kept.{Kept}
 use Rattle.audit_check.specs.declared.walking.Kept.TheVariants as kept
 use Rattle.audit_check.specs.declared.around.Around.{Around}
-use Rattle.audit_check.specs.Walking.{Walking, Moved, Way, moved, chain, taken, looked, record_at, dropped, dropped_from, sealed, issued_now, trapped_by, found, word, words_behind, reading_target, copy_end, tested, with_store, put_reading}
+use Rattle.audit_check.specs.Walking.{Walking, Way, moved, chain, taken, looked, record_at, dropped, dropped_from, sealed, issued_now, trapped_by, found, word, words_behind, reading_target, copy_end, tested, with_store, put_reading}
 
 -- ---- what a task goes by
 

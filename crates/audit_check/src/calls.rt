@@ -1,14 +1,12 @@
 //! The walk of calls and of blocks' ends.
-ghost use Rattle.std.specs.Prelude.{◌≡◌, ◌≤◌, [], length};
-ghost use Rattle.io_depend.specs.Told.{tells_later};
-ghost use Rattle.walk_run.specs.Store.{put_word};
+ghost use Rattle.std.specs.Prelude.{◌≡◌, []};
 ghost use Rattle.audit_check.specs.Walked as steps;
 ghost use Rattle.audit_check.specs.Walking as spec;
 ghost use Rattle.audit_check.specs.Walking.{Gives};
 
-use crate::around::{Around, annotation_at, decide_at, enter_at, number_at};
+use crate::around::{Around, annotation_at, decide_at, enter_at};
 use crate::walking::{Kept, Stop, Walking};
-use ease_base::{List, NoMemory, Words};
+use ease_base::{List, Words};
 use io_annot::{Choice, Mode};
 use std::alloc::Global;
 use task_ast::{CoreExpr, CoreTarget};
@@ -53,8 +51,8 @@ impl<'a> Walking<'a> {
         }
     }
 
-    // Values words from left to right.
-    fn words(&mut self, alloc: Global, es: &[CoreExpr]) -> Result<Words, Stop>
+    /// Values words from left to right.
+    pub fn words(&mut self, alloc: Global, es: &[CoreExpr]) -> Result<Words, Stop>
         ensures { Gives (spec.words_behind [] es.now self.old) result self.new }
     {
         let mut words = List::new(alloc);
@@ -65,9 +63,9 @@ impl<'a> Walking<'a> {
         Ok(words)
     }
 
-    // Finds the target of a reading, where a call has one.
+    /// Finds the target of a reading, where a call has one.
     #[tactic(auto, unfolding(crate::specs::Walking::reading_target))]
-    fn reading_target(&mut self, onto: &Option<CoreTarget>) -> Result<Option<Place>, Stop>
+    pub fn reading_target(&mut self, onto: &Option<CoreTarget>) -> Result<Option<Place>, Stop>
         ensures { Gives (spec.reading_target onto.now self.old) result self.new }
     {
         match onto {
@@ -91,9 +89,9 @@ impl<'a> Walking<'a> {
         }
     }
 
-    // A reading goes to its target.
+    /// A reading goes to its target.
     #[tactic(auto, unfolding(crate::specs::Walking::put_reading))]
-    fn put_reading(&mut self, at: Option<Place>, word: u32)
+    pub fn put_reading(&mut self, at: Option<Place>, word: u32)
         ensures { self.new ≡ spec.put_reading at word self.old }
     {
         match at {
@@ -102,68 +100,15 @@ impl<'a> Walking<'a> {
         }
     }
 
-    // Drops a record, where that is asked for.
+    /// Drops a record, where that is asked for.
     #[tactic(auto, unfolding(crate::specs::Walking::dropped_if))]
-    fn drop_if(&mut self, wanted: bool, site: u32) -> Result<(), Stop>
+    pub fn drop_if(&mut self, wanted: bool, site: u32) -> Result<(), Stop>
         ensures { Gives (spec.dropped_if wanted site self.old) result self.new }
     {
         if wanted {
             self.drop_record(site)
         } else {
             Ok(())
-        }
-    }
-
-    // The sites from one on, so many of them, that depend on a site drop their records.
-    fn drop_later(&mut self, around: &Around, site: u32, many: u32) -> Result<(), Stop>
-        ensures { Gives (spec.dropped_from (tells_later around.now.depends.now site) 1 many self.old) result self.new }
-    {
-        'sites: for index in 0..many {
-            self.drop_if(around.depends.later(site, index + 1), index + 1)?;
-        }
-        Ok(())
-    }
-
-    // Issues anew: its record and those of its dependents go first.
-    #[tactic(auto, unfolding(crate::specs::Walked::issued_anew))]
-    fn issue_anew(
-        &mut self,
-        around: &Around,
-        site: u32,
-        p: u32,
-        args: &[u32],
-        t: u32,
-    ) -> Result<u32, Stop>
-        requires { length around.now.task.now.sites ≤ 128 }
-        ensures { Gives (steps.issued_anew around.now site p args.now t self.old) result self.new }
-    {
-        self.drop_record(site)?;
-        self.drop_later(around, site, around.task.sites.len() as u32)?;
-        let reading = self.issue(site, p, args)?;
-        self.seal(site, Kept::Reading(reading, t))?;
-        Ok(reading)
-    }
-
-    // Keeps a value, or issues.
-    #[tactic(auto, unfolding(crate::specs::Walked::read_by))]
-    fn read_by(
-        &mut self,
-        around: &Around,
-        site: u32,
-        p: u32,
-        args: &[u32],
-        t: u32,
-        choice: Choice,
-    ) -> Result<u32, Stop>
-        requires { length around.now.task.now.sites ≤ 128 }
-        ensures { Gives (steps.read_by around.now site p args.now t choice self.old) result self.new }
-    {
-        match choice {
-            Choice::Keep(value) => {
-                self.take_kept(site, value)?;
-                Ok(value)
-            }
-            Choice::Issue => self.issue_anew(around, site, p, args, t),
         }
     }
 
@@ -187,42 +132,28 @@ impl<'a> Walking<'a> {
         }
     }
 
-    // What a site does behind its look.
-    fn choice(&self, around: &Around, site: u32, t: u32) -> Choice
+    /// What a site does behind its look.
+    pub fn choice(&self, around: &Around, site: u32, t: u32) -> Choice
         ensures { result ≡ steps.choice_of around.now site t self.now }
     {
-        decide_at(self.mode, annotation_at(around, site), self.reading_at(site), t)
+        decide_at(
+            self.mode,
+            annotation_at(around, site),
+            self.reading_at(site),
+            t,
+        )
     }
 
     /// The mode inside a block that looks at a time.
     pub fn inside(&self, around: &Around, site: u32, t: u32) -> Mode
         ensures { result ≡ steps.inside_of around.now site t self.now }
     {
-        enter_at(self.mode, annotation_at(around, site), self.stamp_at(site), t)
-    }
-
-    /// Does a call.
-    #[tactic(auto, unfolding(crate::specs::Walked::call_walked))]
-    pub fn call(
-        &mut self,
-        alloc: Global,
-        around: &Around,
-        site: u32,
-        onto: &Option<CoreTarget>,
-        p: u32,
-        args: &[CoreExpr],
-    ) -> Result<(), Stop>
-        requires { length around.now.task.now.sites ≤ 128 }
-        ensures { Gives (steps.call_walked around.now site onto.now p args.now self.old) result self.new }
-    {
-        let at = self.reading_target(onto)?;
-        let words = self.words(alloc, args)?;
-        let t = self.look(site)?;
-        let choice = self.choice(around, site, t);
-        let number = number_at(around, p);
-        let reading = self.read_by(around, site, number, words.as_slice(), t, choice)?;
-        self.put_reading(at, reading);
-        Ok(())
+        enter_at(
+            self.mode,
+            annotation_at(around, site),
+            self.stamp_at(site),
+            t,
+        )
     }
 
     // Seals a block that didn't keep.
@@ -241,13 +172,7 @@ impl<'a> Walking<'a> {
 
     /// Ends a block.
     #[tactic(auto, unfolding(crate::specs::Walked::block_ended))]
-    pub fn end_block(
-        &mut self,
-        site: u32,
-        t: u32,
-        outside: Mode,
-        inside: Mode,
-    ) -> Result<(), Stop>
+    pub fn end_block(&mut self, site: u32, t: u32, outside: Mode, inside: Mode) -> Result<(), Stop>
         ensures { Gives (steps.block_ended site t outside inside self.old) result self.new }
     {
         self.seal_block(site, t, inside)?;
