@@ -3,3 +3,5 @@ mod FittingLaws
 mod LeafLaws
 mod SameLaws
 mod TrackLaws
+mod WalkLaws
+mod WalkLemmas

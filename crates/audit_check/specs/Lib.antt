@@ -6,4 +6,5 @@ pub mod Leads
 pub mod Lines
 pub mod Same
 pub mod Tracks
+pub mod Walked
 pub mod Walking

@@ -1,15 +1,19 @@
 //! What holds of a walk beside the rules, as the contracts of functions that do nothing.
-ghost use Rattle.std.specs.Prelude.{◌≡◌, ◌<◌, ℕ, List, Bool, filter};
+ghost use Rattle.std.specs.Prelude.{◌≡◌, ◌<◌, ℕ, List, Bool, filter, Option};
 ghost use Rattle.std.specs.List.{range_with_len};
 ghost use Rattle.task_ast.specs.declared.core_form.CoreExpr.{CoreExpr};
-ghost use Rattle.task_attempts.specs.State.{Setting, Record};
+ghost use Rattle.task_ast.specs.declared.core_form.CoreTarget.{CoreTarget};
+ghost use Rattle.task_attempts.specs.State.{Setting, Record, Rest};
 ghost use Rattle.task_attempts.specs.Told.{drop_one, drop_all, seal, look};
 ghost use Rattle.task_attempts.specs.Values.{value};
-ghost use Rattle.task_attempts.specs.Calls.{issue};
+ghost use Rattle.task_attempts.specs.Calls.{issue, call_log};
+ghost use Rattle.task_attempts.specs.Blocks.{block_log};
+ghost use Rattle.audit_check.specs.Walked.{setting_of, DropsRight, number_at, call_walked, block_walked};
 ghost use Rattle.audit_check.specs.Tracks.{Tracks, kept_of};
-ghost use Rattle.audit_check.specs.Walking.{dropped, dropped_from, sealed, looked, issued_now, word};
+ghost use Rattle.audit_check.specs.Walking.{Walking as Walk, Way, dropped, dropped_from, sealed, looked, issued_now, word};
 
-use devices::Feed;
+use crate::around::Around;
+use devices::{Feed, World};
 
 /// A record is dropped as the rules drop it.
 pub fn a_drop_goes_along(feeds: &[Feed])
@@ -40,4 +44,16 @@ pub fn an_issue_goes_along(feeds: &[Feed])
 /// A word is valued as the rules value it, or its trap ends the boot.
 pub fn a_word_goes_along(feeds: &[Feed])
     ensures { (e : CoreExpr) → Tracks feeds.now (λ go. value e go) (word e) }
+{}
+
+/// A call goes along the rules: it keeps its record's value or issues anew, as they say, and its reading goes to its target.
+pub fn a_call_goes_along(world: &World, around: &Around)
+    ensures { ((p : ℕ) → number_at around.now p < 256) → (k : ℕ) (onto : Option CoreTarget) (p : ℕ) (args : List CoreExpr) → k < 129 → DropsRight around.now k
+        → Tracks world.now.feeds (λ go. call_log (setting_of world.now around.now) k onto p args (go tt)) (call_walked around.now k onto p args) }
+{}
+
+/// A block goes along the rules, if its body does: it is sealed where they say so, and its calls see the mode that they say.
+pub fn a_block_goes_along(world: &World, around: &Around)
+    ensures { (k : ℕ) (body : Rest → Rest) (step : Walk → Way (Unit {0})) → k < 129 → Tracks world.now.feeds (λ go. body (go tt)) step
+        → Tracks world.now.feeds (λ go. block_log (setting_of world.now around.now) k body (go tt)) (block_walked around.now k step) }
 {}

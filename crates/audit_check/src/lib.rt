@@ -1,18 +1,21 @@
 //! Whether a journal is one that the rules of attempts allow, and its first line where it isn't. Here are two parts: whether its
-//! steps and looks fit the world, and the walk beside the rules by single events. The walk of calls, blocks, copies,
-//! statements and boots isn't here yet.
+//! steps and looks fit the world; and the walk beside the rules by single events, with laws on calls and blocks. The walk of
+//! copies, statements and boots isn't here yet.
 #![tactic(auto)]
 
+mod around;
+mod calls;
 mod fitting;
 mod journal;
 mod laws;
 mod same;
 mod walking;
 
+pub use around::{Around, annotation_at, decide_at, enter_at, memory_at, number_at};
 pub use fitting::fitting_lines;
 pub use journal::{ReportBoot, ReportEvent, ReportPlace, TimedEvent};
 pub use laws::{
-    a_drop_goes_along, a_look_goes_along, a_seal_goes_along, a_word_goes_along,
-    an_issue_goes_along, drops_go_along,
+    a_block_goes_along, a_call_goes_along, a_drop_goes_along, a_look_goes_along, a_seal_goes_along,
+    a_word_goes_along, an_issue_goes_along, drops_go_along,
 };
 pub use walking::{Kept, Stop, Walking};
