@@ -1,4 +1,5 @@
 pub mod Cutting
 pub mod Following
+pub mod InAttempts
 pub mod InRows
 pub mod Splitting
