@@ -3,13 +3,15 @@ ghost use Rattle.std.specs.Prelude.{◌≡◌, ◌+◌, ℕ, List, length, map, 
 ghost use Rattle.act_refines.specs.Does.{frame_of};
 ghost use Rattle.code_runs.specs.Attempts.{AttemptRuns, LeadsFirst, RegionsRun, attempt};
 ghost use Rattle.code_runs.specs.Following.{HasEpochs, LeadsAgain, StandsFor};
+ghost use Rattle.code_runs.specs.Stubs.{AllStubsRun};
 ghost use Rattle.devices.specs.Journal.{Place};
 ghost use Rattle.region_split.specs.Regions.{regions};
-ghost use Rattle.run_plan.specs.Runs.{Onward, acts_run, nothing};
+ghost use Rattle.run_plan.specs.Runs.{Onward, Planned, acts_run, attempts, doing, nothing};
 ghost use Rattle.run_plan.specs.Small.{Doing, core_of};
 ghost use Rattle.run_plan.specs.declared.act.Act.{Act};
 ghost use Rattle.run_plan.specs.declared.act.Act.TheVariants as act;
 ghost use Rattle.task_ast.specs.declared.core_form.CoreExit.{CoreExit};
+ghost use Rattle.task_ast.specs.declared.core_form.CoreTask.{CoreTask};
 ghost use Rattle.word_code.specs.Sizes.{acts_size};
 ghost use Rattle.word_machine.specs.State.{Program};
 
@@ -28,4 +30,11 @@ pub fn an_attempt_runs_as_planned()
     ensures { (p : Program) (place_of : ℕ → Place) (d : Doing) (number most : ℕ) (again : Onward) → LeadsAgain p place_of d (StandsFor (core_of d) d.scheme) HasEpochs most again
         → (t : ℕ) (acts : List Act) (e : CoreExit) (at next : ℕ) → AttemptRuns p place_of d number (StandsFor (core_of d) d.scheme) HasEpochs t acts e at next
         → LeadsFirst p place_of d (StandsFor (core_of d) d.scheme) HasEpochs (suc most) at (acts_run d again (attempt t acts e) nothing) }
+{}
+
+/// Attempts run one after another as planned: a commit goes through the stub of its task to that task's attempt, and where there
+/// is none the machine halts.
+pub fn attempts_run_as_planned()
+    ensures { (p : Program) (place_of : ℕ → Place) (x : Planned) (number : ℕ) (task : CoreTask) → AllStubsRun p place_of x
+        → (most : ℕ) → LeadsAgain p place_of (doing x number task) (StandsFor x.rules.core x.plan.scheme) HasEpochs most (attempts x most) }
 {}

@@ -4,5 +4,7 @@
 mod attempts;
 mod rows;
 
-pub use attempts::{a_boot_restores_as_planned, an_attempt_runs_as_planned};
+pub use attempts::{
+    a_boot_restores_as_planned, an_attempt_runs_as_planned, attempts_run_as_planned,
+};
 pub use rows::{acts_in_a_row_run_as_planned, an_act_runs_at_its_place};
