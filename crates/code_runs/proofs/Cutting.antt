@@ -22,13 +22,12 @@ use Rattle.run_plan.specs.declared.act.Act.{Act}
 use Rattle.run_plan.specs.Cells.{State}
 use Rattle.run_plan.specs.Deeds.{act_done}
 use Rattle.run_plan.specs.Small.{Atom, Doing, Done, Way, after_atom, after_shown, core_of, does, fails, showing, stuck}
-use Rattle.run_plan.specs.Weights.{weight}
 use Rattle.word_code.specs.ActCode.{act_code}
 use Rattle.act_refines.specs.Between.{AreRelated}
-use Rattle.act_refines.specs.Does.{DoesAct, Ends, GoesOn, MayCommit, RelatedBehind, Stops, frame_of, has_begun, way_at}
-use Rattle.act_refines.specs.Seen.{IsFront, Seen, behind, event_seen, steps_seen, tells, trace_seen, write_seen}
-use Rattle.code_runs.specs.Cutting.{AreWhole, CutsBy, CutsWell, IsSoonAfter, SoFar}
-use Rattle.code_runs.specs.Following.{HasEpochs, IfMore, Inside, Passes, PassesBy, RunsAt, StandsFor, atoms_of, end_seen, shown_by}
+use Rattle.act_refines.specs.Does.{Ends, GoesOn, RelatedBehind, Stops, frame_of, has_begun, way_at}
+use Rattle.act_refines.specs.Seen.{IsFront, Seen, behind, event_seen, steps_seen, trace_seen, write_seen}
+use Rattle.code_runs.specs.Cutting.{AreWhole, CutsBy, CutsWell, DoesWithin, IsSoonAfter, SoFar}
+use Rattle.code_runs.specs.Following.{HasEpochs, IfMore, Inside, Passes, PassesBy, RunsIn, StandsFor, end_seen, shown_by}
 use Rattle.code_runs.proofs.Splitting.{seen_more}
 
 is_less : (n m : ℕ) → nat_lt n m ≡ true → n < m
@@ -205,11 +204,11 @@ runs_by p place_of d Stood a n most to m s (does atoms change way) cuts g room =
 runs_by p place_of d Stood a n most to m s (fails atoms why) cuts x room = inl (fails_by p place_of (core_of d) d.scheme Stood n most m s atoms why cuts x)
 runs_by p place_of d Stood a n most to m s stuck cuts x room = elim cuts [ ]
 
-pub runs_at : (p : Program) (place_of : ℕ → Place) (d : Doing) (number : ℕ) (keeps : Bool) (a : Act) (at next : ℕ) → IsWellFormed (core_of d) → DoesAct p place_of d number keeps a MayCommit
+pub runs_in : (p : Program) (place_of : ℕ → Place) (d : Doing) (number : ℕ) (keeps : Bool) (most : State → ℕ) (a : Act) (at next : ℕ) → IsWellFormed (core_of d) → DoesWithin p place_of d number keeps most a
     → Lie p at (act_code (frame_of d number) keeps a at next) → ((m : Spot) (s : State) → m.pc ≡ at → AreRelated p d (has_begun a) m s → CutsWell p place_of d a m s)
-    → RunsAt p place_of d number (StandsFor (core_of d) d.scheme) HasEpochs a at next
-runs_at p place_of d number keeps a at next well act has cuts n m s pc related room =
+    → RunsIn p place_of d number (StandsFor (core_of d) d.scheme) HasEpochs most a at next
+runs_in p place_of d number keeps most a at next well act has cuts n m s pc related room =
     let epoch_fits : s.epoch + 1 < 2 ^ 24 = omega (arith, room) in
-    runs_by p place_of d (StandsFor (core_of d) d.scheme) a n (weight d a s) (way_at (frame_of d number) a at next) m s (act_done d a s) (cuts m s pc related)
-    (subst (λ w. Ends p place_of d a (weight d a s) (way_at (frame_of d number) a w next) m s (act_done d a s)) pc
+    runs_by p place_of d (StandsFor (core_of d) d.scheme) a n (most s) (way_at (frame_of d number) a at next) m s (act_done d a s) (cuts m s pc related)
+    (subst (λ w. Ends p place_of d a (most s) (way_at (frame_of d number) a w next) m s (act_done d a s)) pc
     (act next m s well (subst (λ w. Lie p w (act_code (frame_of d number) keeps a w next)) (sym pc) has) related epoch_fits)) room

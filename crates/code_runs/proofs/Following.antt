@@ -1,33 +1,27 @@
 -- An act that is cut, and what comes behind it; and acts in a row.
 use Rattle.std.specs.Prelude.{◌⊎◌, length}
-use Rattle.std.proofs.Common.{◌≡◌, ◌∙◌, ℕ, zero, suc, ◌+◌, ◌-◌, ◌<◌, ◌≤◌, inl, inr, Bool, true, false, List, [], ◌∷◌, ◌++◌, refl, sym, ap, subst, append_assoc, append-nil, arith}
+use Rattle.std.proofs.Common.{◌≡◌, ◌∙◌, ℕ, zero, suc, ◌+◌, ◌-◌, ◌<◌, ◌≤◌, inl, inr, List, [], ◌∷◌, ◌++◌, refl, sym, ap, subst, append_assoc, append-nil, arith}
 use Rattle.devices.specs.Journal.{Place, commits, traps}
 use Rattle.task_ast.specs.declared.core_form.Core.{Core}
-use Rattle.task_ast.specs.declared.core_form.CoreTask.{CoreTask}
 use Rattle.walk_run.specs.Trap.{code_of}
-use Rattle.walk_run.specs.declared.trap.Trap.{Trap}
 use Rattle.word_isa.specs.declared.parts.Scheme.{Scheme}
 use Rattle.word_machine.specs.State.{Program}
 use Rattle.word_machine.specs.Step.{exec}
 use Rattle.word_machine.specs.Straight.{Spot, live}
 use Rattle.word_machine.specs.Traces as trace
-use Rattle.run_plan.specs.declared.act.Act.{Act, Row_of-Act, end_of-Act, more_of-Act}
+use Rattle.run_plan.specs.declared.act.Act.{Act}
 use Rattle.run_plan.specs.declared.act.Act.TheVariants as act
 use Rattle.run_plan.specs.Cells.{State, puts_state}
 use Rattle.run_plan.specs.Deeds.{act_done, next_bank}
-use Rattle.run_plan.specs.Runs.{At, Onward, Small, Smalls, act_end, act_run, act_steps, after, by_way, deed, nothing, row_run, small_steps, straight, with_state}
-use Rattle.run_plan.specs.Small.{Atom, Doing, Done, Way, ahead, first_way, second_way, third_way, after_atom, core_of, does, ending, fails, same, showing, stuck, writing}
+use Rattle.run_plan.specs.Runs.{At, Onward, Small, Smalls, act_end, act_steps, after, by_way, deed, nothing, small_steps, straight, with_state}
+use Rattle.run_plan.specs.Small.{Atom, Doing, Done, Way, ahead, first_way, second_way, third_way, core_of, does, ending, fails, same, showing, stuck, writing}
 use Rattle.run_plan.specs.Weights.{weight}
-use Rattle.word_code.specs.ActCode.{acts_entry, entry}
-use Rattle.word_code.specs.Frames.{site_at, stub_at}
-use Rattle.word_code.specs.Sizes.{act_size, row_size}
-use Rattle.word_code.specs.Tables.{keeps_size}
-use Rattle.line_code.specs.Sizes.{expr_size}
+use Rattle.word_code.specs.Frames.{stub_at}
 use Rattle.act_laws.specs.Words.{state_word}
 use Rattle.act_refines.specs.Between.{AreRelated}
 use Rattle.act_refines.specs.Does.{GoesOn, RelatedBehind, frame_of, has_begun, way_at, way_to}
 use Rattle.act_refines.specs.Seen.{Seen, behind, puts, steps_seen, tells, trace_seen}
-use Rattle.code_runs.specs.Following.{ActRuns, Cut, IfMore, Inside, IsInProgress, Leads, LeadsAgain, LeadsFrom, Passes, PassesBy, RelatedNext, RowRuns, RunsAt, atoms_of, shown_by, smalls_seen}
+use Rattle.code_runs.specs.Following.{Cut, IfMore, Inside, IsInProgress, IsWay, Leads, LeadsAgain, LeadsFrom, Passes, PassesBy, RunsAt, RunsIn, commit_most, shown_by, smalls_seen}
 use Rattle.code_runs.proofs.Splitting.{at_behind, exec_behind, from_after, from_seen, from_split, shown_behind, smalls_from, steps_split}
 
 -- an act's end as a small step
@@ -132,23 +126,23 @@ weighed d a at = record at { weights = at.weights + weight d a at.state }
 -- an act is done at its place, and what comes behind it where it leads
 module _ (p : Program) (place_of : ℕ → Place) (d : Doing) (number : ℕ) (Stood : (ℕ → ℕ) → State → Type 0) (Holds : ℕ → Spot → State → Type 0) where
   pub act_follows : (Later : Spot → State → Type 0) (a : Act) (at next most : ℕ) (ways : Way → Onward) → ((m : Spot) (s : State) → RelatedBehind p d a m s → Later m s)
-      → RunsAt p place_of d number Stood Holds a at next → ((way : Way) → LeadsFrom p place_of (core_of d) d.scheme Stood Holds Later (suc most) (way_at (frame_of d number) a at next way) (ways way))
+      → RunsAt p place_of d number Stood Holds a at next → ((s : State) (way : Way) → IsWay (act_done d a s) way → LeadsFrom p place_of (core_of d) d.scheme Stood Holds Later (suc most) (way_at (frame_of d number) a at next way) (ways way))
       → LeadsFrom p place_of (core_of d) d.scheme Stood Holds (AreRelated p d (has_begun a)) (suc most) at (act_steps d a ways)
-  act_follows Later a at next most ways later runs leads n spent m w soon pc related few holds = by (act_done d a w.state) (runs n m w.state pc related holds)
+  act_follows Later a at next most ways later runs leads n spent m w soon pc related few holds = by (act_done d a w.state) refl (runs n m w.state pc related holds)
     where
       enough : spent + weight d a w.state ≤ w.weights + weight d a w.state
       enough = omega (arith, few)
 
-      by : (done : Done) → Inside p place_of (core_of d) d.scheme Stood n (weight d a w.state) m w.state done
+      by : (done : Done) → act_done d a w.state ≡ done → Inside p place_of (core_of d) d.scheme Stood n (weight d a w.state) m w.state done
           ⊎ PassesBy p place_of (core_of d) d.scheme Holds (RelatedBehind p d a) n (weight d a w.state) (way_at (frame_of d number) a at next) m w.state done
           → Cut p place_of (core_of d) d.scheme Stood n spent m w.state (deed (core_of d) a done ways (weighed d a w))
-      by done (inl x) = cut_inside p place_of (core_of d) d.scheme Stood a n spent (weight d a w.state) m (weighed d a w) done ways enough x
-      by (does atoms change way) (inr x) =
+      by done is (inl x) = cut_inside p place_of (core_of d) d.scheme Stood a n spent (weight d a w.state) m (weighed d a w) done ways enough x
+      by (does atoms change way) is (inr x) =
           let soon_too : n - x.goes.steps < suc most = omega (arith, soon) in
           cut_passed p place_of (core_of d) d.scheme Stood Holds (RelatedBehind p d a) Later a n spent (weight d a w.state) (suc most) (way_at (frame_of d number) a at next way) m (weighed d a w) atoms change (ways way) enough x soon_too
-          (later x.goes.there (change (behind (core_of d) atoms w.state)) x.goes.related) (leads way)
-      by (fails atoms why) (inr x) = elim x [ ]
-      by stuck (inr x) = elim x [ ]
+          (later x.goes.there (change (behind (core_of d) atoms w.state)) x.goes.related) (leads w.state way (subst (λ o. IsWay o way) (sym is) refl))
+      by (fails atoms why) is (inr x) = elim x [ ]
+      by stuck is (inr x) = elim x [ ]
 
   -- where it leads into lists
   pub ways_lead : (most first second third next : ℕ) (one two three go : Onward) → Leads p place_of d Stood Holds most first one → Leads p place_of d Stood Holds most second two → Leads p place_of d Stood Holds most third three
@@ -169,24 +163,28 @@ module _ (p : Program) (place_of : ℕ → Place) (d : Doing) (number : ℕ) (St
       by zero is = cc
       by (suc steps) is = omega arith
 
-  -- it leads to the attempt of its next task, in fewer steps
-  pub commit_follows : (t at next most : ℕ) (again : Onward) → RunsAt p place_of d number Stood Holds (act.Commit t) at next → t ≤ length (core_of d).tasks → LeadsAgain p place_of d Stood Holds most again
+  -- it leads to the attempt of its next task, in fewer steps, and leaves one of its weight
+  pub commit_follows : (t at next most : ℕ) (again : Onward) → RunsIn p place_of d number Stood Holds commit_most (act.Commit t) at next → t ≤ length (core_of d).tasks → LeadsAgain p place_of d Stood Holds most again
       → Leads p place_of d Stood Holds (suc most) at (act_steps d (act.Commit t) (straight again))
   commit_follows t at next most again runs there leads n spent m w soon pc related few holds = by (runs n m w.state pc related holds)
     where
-      enough : spent + weight d (act.Commit t) w.state ≤ w.weights + weight d (act.Commit t) w.state
+      enough : spent + 31 ≤ w.weights + 32
       enough = omega (arith, few)
 
-      by : Inside p place_of (core_of d) d.scheme Stood n (weight d (act.Commit t) w.state) m w.state (act_done d (act.Commit t) w.state)
-          ⊎ PassesBy p place_of (core_of d) d.scheme Holds (RelatedBehind p d (act.Commit t)) n (weight d (act.Commit t) w.state) (way_at (frame_of d number) (act.Commit t) at next) m w.state (act_done d (act.Commit t) w.state)
+      by : Inside p place_of (core_of d) d.scheme Stood n 31 m w.state (act_done d (act.Commit t) w.state)
+          ⊎ PassesBy p place_of (core_of d) d.scheme Holds (RelatedBehind p d (act.Commit t)) n 31 (way_at (frame_of d number) (act.Commit t) at next) m w.state (act_done d (act.Commit t) w.state)
           → Cut p place_of (core_of d) d.scheme Stood n spent m w.state (deed (core_of d) (act.Commit t) (act_done d (act.Commit t) w.state) (straight again) (weighed d (act.Commit t) w))
-      by (inl x) = cut_inside p place_of (core_of d) d.scheme Stood (act.Commit t) n spent (weight d (act.Commit t) w.state) m (weighed d (act.Commit t) w) (act_done d (act.Commit t) w.state) (straight again) enough x
+      by (inl x) = cut_inside p place_of (core_of d) d.scheme Stood (act.Commit t) n spent 31 m (weighed d (act.Commit t) w) (act_done d (act.Commit t) w.state) (straight again) enough x
       by (inr x) =
           let e : ℕ = w.state.epoch + 1 in
           let bank : ℕ = next_bank d.scheme w.state.bank in
-          let some : 0 < x.goes.steps = takes_steps (weight d (act.Commit t) w.state) (stub_at (length (core_of d).tasks) t) m (puts 0 (state_word e t bank)) (tells (commits t) ∷ [])
-          (λ there. RelatedBehind p d (act.Commit t) there (behind (core_of d) (writing (puts_state e t bank) (commits t) ∷ []) w.state)) x.goes in
-          let fits : x.goes.steps ≤ n = x.few in
-          let soon_too : n - x.goes.steps < most = omega (arith, soon, some, fits) in
-          cut_passed p place_of (core_of d) d.scheme Stood Holds (RelatedBehind p d (act.Commit t)) (RelatedNext p d t) (act.Commit t) n spent (weight d (act.Commit t) w.state) most (stub_at (length (core_of d).tasks) t) m (weighed d (act.Commit t) w) (writing (puts_state (w.state.epoch + 1) t (next_bank d.scheme w.state.bank)) (commits t) ∷ []) same again enough x soon_too
-          (refl, x.goes.related) (leads t there)
+          let atoms : List Atom = writing (puts_state e t bank) (commits t) ∷ [] in
+          let to : State = behind (core_of d) atoms w.state in
+          let g = x.goes in
+          let some : 0 < g.steps = takes_steps 31 (stub_at (length (core_of d).tasks) t) m (puts 0 (state_word e t bank)) (tells (commits t) ∷ []) (λ there. RelatedBehind p d (act.Commit t) there to) g in
+          let fits : g.steps ≤ n = x.few in
+          let in_weight : g.steps ≤ 31 = g.few in
+          let soon_too : n - g.steps < most = omega (arith, soon, some, fits) in
+          let early : spent + g.steps < w.weights + 32 = omega (arith, few, in_weight) in
+          cut_behind p place_of (core_of d) d.scheme Stood (act.Commit t) n spent 31 (stub_at (length (core_of d).tasks) t) m (weighed d (act.Commit t) w) atoms same again (λ at_stub. RelatedBehind p d (act.Commit t) at_stub to) g fits
+          (leads t there (n - g.steps) (spent + g.steps) g.there (with_state to (weighed d (act.Commit t) w)) soon_too g.at (refl, g.related) early x.holds)

@@ -1,5 +1,5 @@
 -- A run's small steps, split between acts; and what a run shows, split behind steps.
-use Rattle.std.proofs.Common.{◌≡◌, ◌∙◌, ℕ, ◌+◌, ◌-◌, ◌<◌, ◌≤◌, List, [], ◌∷◌, ◌++◌, refl, sym, ap, append_assoc, append-nil, arith}
+use Rattle.std.proofs.Common.{◌≡◌, ◌∙◌, ℕ, ◌+◌, List, [], ◌∷◌, ◌++◌, refl, sym, ap, append_assoc}
 use Rattle.devices.specs.Journal.{Place, placed}
 use Rattle.task_ast.specs.declared.core_form.Core.{Core}
 use Rattle.word_isa.specs.declared.parts.Scheme.{Scheme}
@@ -9,8 +9,7 @@ use Rattle.word_machine.specs.Step.{exec}
 use Rattle.word_machine.specs.Straight.{Spot, live}
 use Rattle.word_machine.specs.Traces as trace
 use Rattle.run_plan.specs.declared.act.Act.{Act}
-use Rattle.run_plan.specs.Cells.{State}
-use Rattle.run_plan.specs.Runs.{At, Onward, Small, Smalls, after, small_steps, with_state}
+use Rattle.run_plan.specs.Runs.{At, Onward, Smalls, after, small_steps, with_state}
 use Rattle.run_plan.specs.Small.{Atom, after_atom, after_shown}
 use Rattle.act_laws.specs.Codes.{Goes}
 use Rattle.act_refines.specs.Seen.{Seen, behind, event_seen, puts, steps_seen, tells, trace_seen, write_seen}

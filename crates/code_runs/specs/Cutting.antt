@@ -1,16 +1,21 @@
 -- What is known of an act's code that is cut anywhere, beside that it does its act.
-use Rattle.std.specs.Prelude.{List, [], ◌++◌, ◌≡◌, ◌≢◌, ℕ, ◌+◌, ⊤, ◌⊎◌}
+use Rattle.std.specs.Prelude.{List, [], ◌++◌, ◌≡◌, ◌≢◌, ℕ, ◌+◌, Bool, ◌⊎◌}
 use Rattle.devices.specs.Journal.{Place}
 use Rattle.task_ast.specs.declared.core_form.Core.{Core}
+use Rattle.task_ast.specs.WellFormed.{IsWellFormed}
 use Rattle.word_isa.specs.declared.parts.Scheme.{Scheme}
 use Rattle.word_machine.specs.State.{Program}
 use Rattle.word_machine.specs.Step.{exec}
 use Rattle.word_machine.specs.Straight.{Spot, live}
 use Rattle.word_machine.specs.Traces as trace
+use Rattle.line_laws.specs.Standing.{Lie}
 use Rattle.run_plan.specs.declared.act.Act.{Act}
+use Rattle.word_code.specs.ActCode.{act_code}
 use Rattle.run_plan.specs.Cells.{State}
 use Rattle.run_plan.specs.Deeds.{act_done}
 use Rattle.run_plan.specs.Small.{Atom, Doing, Done, core_of, does, fails, stuck}
+use Rattle.act_refines.specs.Between.{AreRelated}
+use Rattle.act_refines.specs.Does.{Ends, MayCommit, frame_of, has_begun, way_at}
 use Rattle.act_refines.specs.Seen.{IsFront, behind, steps_seen, trace_seen}
 use Rattle.code_runs.specs.Following.{StandsFor}
 
@@ -40,3 +45,9 @@ CutsBy p place_of c scheme Stood m s stuck = ⊥
 
 abbrev pub CutsWell : Program → (ℕ → Place) → Doing → Act → Spot → State → Type 0
 CutsWell p place_of d a m s = CutsBy p place_of (core_of d) d.scheme (StandsFor (core_of d) d.scheme) m s (act_done d a s)
+
+-- an act's code does its act within so many steps, where the next epoch fits; within its weight that is what it means to do its act
+abbrev pub DoesWithin : Program → (ℕ → Place) → Doing → (number : ℕ) → (keeps : Bool) → (most : State → ℕ) → Act → Type 0
+DoesWithin p place_of d number keeps most a =
+    (next : ℕ) (m : Spot) (s : State) → IsWellFormed (core_of d) → Lie p m.pc (act_code (frame_of d number) keeps a m.pc next) → AreRelated p d (has_begun a) m s → MayCommit m s
+    → Ends p place_of d a (most s) (way_at (frame_of d number) a m.pc next) m s (act_done d a s)

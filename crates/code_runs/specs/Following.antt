@@ -1,5 +1,5 @@
 -- How the machine's steps follow a plan's small steps: what is seen so far is what some number of them show, cut anywhere.
-use Rattle.std.specs.Prelude.{List, [], ◌∷◌, ◌++◌, ◌≡◌, ℕ, suc, ◌+◌, ◌-◌, ◌<◌, ◌≤◌, ◌⊎◌, ◌^◌, ⊤, Some, true, false, length}
+use Rattle.std.specs.Prelude.{List, [], ◌∷◌, ◌++◌, ◌≡◌, ℕ, ◌+◌, ◌-◌, ◌<◌, ◌≤◌, ◌⊎◌, ◌^◌, ⊤, Some, true, false, length}
 use Rattle.devices.specs.Journal.{Place, traps}
 use Rattle.task_ast.specs.declared.core_form.Core.{Core}
 use Rattle.task_ast.specs.declared.core_form.CoreTask.{CoreTask}
@@ -17,11 +17,11 @@ use Rattle.run_plan.specs.declared.act.Act.{Act, Row_of-Act, end_of-Act, more_of
 use Rattle.run_plan.specs.declared.act.Act.TheVariants as act
 use Rattle.run_plan.specs.Cells.{State}
 use Rattle.run_plan.specs.Deeds.{act_done}
-use Rattle.run_plan.specs.Runs.{At, Onward, Small, Smalls, after}
+use Rattle.run_plan.specs.Runs.{At, Onward, Smalls, after}
 use Rattle.run_plan.specs.Small.{Atom, Doing, Done, Way, after_shown, core_of, does, fails, showing, stuck}
 use Rattle.run_plan.specs.Weights.{weight}
 use Rattle.word_code.specs.ActCode.{acts_entry, entry}
-use Rattle.word_code.specs.Frames.{Frame, site_at, stub_at}
+use Rattle.word_code.specs.Frames.{site_at, stub_at}
 use Rattle.word_code.specs.Sizes.{act_size, row_size}
 use Rattle.word_code.specs.Tables.{keeps_size}
 use Rattle.cell_laws.specs.Standing.{Stands}
@@ -113,12 +113,27 @@ PassesBy p place_of c scheme Holds Related n most to m s (does atoms change way)
 PassesBy p place_of c scheme Holds Related n most to m s (fails atoms why) = ⊥
 PassesBy p place_of c scheme Holds Related n most to m s stuck = ⊥
 
--- An act's code does its act at an address, cut anywhere: so many steps from its top are within it, or it has gone its way.
-abbrev pub RunsAt : Program → (ℕ → Place) → Doing → (number : ℕ) → (Stood : (ℕ → ℕ) → State → Type 0) → (Holds : ℕ → Spot → State → Type 0) → Act → (at next : ℕ) → Type 0
-RunsAt p place_of d number Stood Holds a at next =
+-- An act's code does its act at an address, cut anywhere, in at most so many steps: so many from its top are within it, or it has
+-- gone its way.
+abbrev pub RunsIn : Program → (ℕ → Place) → Doing → (number : ℕ) → (Stood : (ℕ → ℕ) → State → Type 0) → (Holds : ℕ → Spot → State → Type 0) → (most : State → ℕ) → Act → (at next : ℕ) → Type 0
+RunsIn p place_of d number Stood Holds most a at next =
     (n : ℕ) (m : Spot) (s : State) → m.pc ≡ at → AreRelated p d (has_begun a) m s → Holds n m s
-    → Inside p place_of (core_of d) d.scheme Stood n (weight d a s) m s (act_done d a s)
-    ⊎ PassesBy p place_of (core_of d) d.scheme Holds (RelatedBehind p d a) n (weight d a s) (way_at (frame_of d number) a at next) m s (act_done d a s)
+    → Inside p place_of (core_of d) d.scheme Stood n (most s) m s (act_done d a s)
+    ⊎ PassesBy p place_of (core_of d) d.scheme Holds (RelatedBehind p d a) n (most s) (way_at (frame_of d number) a at next) m s (act_done d a s)
+
+-- within its weight
+abbrev pub RunsAt : Program → (ℕ → Place) → Doing → (number : ℕ) → (Stood : (ℕ → ℕ) → State → Type 0) → (Holds : ℕ → Spot → State → Type 0) → Act → (at next : ℕ) → Type 0
+RunsAt p place_of d number Stood Holds a at next = RunsIn p place_of d number Stood Holds (weight d a) a at next
+
+-- a commit leaves a step of its weight to the next task's stub
+abbrev pub commit_most : State → ℕ
+commit_most s = 31
+
+-- the way that an act goes as it ends
+abbrev pub IsWay : Done → Way → Type 0
+IsWay (does atoms change way) other = way ≡ other
+IsWay (fails atoms why) other = ⊥
+IsWay stuck other = ⊥
 
 -- ---- acts in a row
 
@@ -146,7 +161,7 @@ abbrev mutual
       × RowRuns p place_of d number Stood Holds single_row (at + 12) next
       × RowRuns p place_of d number Stood Holds private_row private_at next
       × RowRuns p place_of d number Stood Holds rest_row (private_at + row_size (frame_of d number) private_row) next
-  ActRuns p place_of d number Stood Holds (act.Commit t) at next = RunsAt p place_of d number Stood Holds (act.Commit t) at next × (t ≤ length (core_of d).tasks)
+  ActRuns p place_of d number Stood Holds (act.Commit t) at next = RunsIn p place_of d number Stood Holds commit_most (act.Commit t) at next × (t ≤ length (core_of d).tasks)
   ActRuns p place_of d number Stood Holds a at next = RunsAt p place_of d number Stood Holds a at next
 
   -- those of a row, each where the row has it and before what comes next in it
@@ -169,7 +184,9 @@ Leads p place_of d Stood Holds most pc go = LeadsFrom p place_of (core_of d) d.s
 
 abbrev pub LeadsAgain : Program → (ℕ → Place) → Doing → (Stood : (ℕ → ℕ) → State → Type 0) → (Holds : ℕ → Spot → State → Type 0) → (most : ℕ) → Onward → Type 0
 LeadsAgain p place_of d Stood Holds most again =
-    (t : ℕ) → t ≤ length (core_of d).tasks → LeadsFrom p place_of (core_of d) d.scheme Stood Holds (RelatedNext p d t) most (stub_at (length (core_of d).tasks) t) again
+    (t : ℕ) → t ≤ length (core_of d).tasks
+    → (n spent : ℕ) (m : Spot) (at : At) → n < most → m.pc ≡ stub_at (length (core_of d).tasks) t → RelatedNext p d t m at.state → spent < at.weights → Holds n m at.state
+    → Cut p place_of (core_of d) d.scheme Stood n spent m at.state (again at)
 
 -- ---- what stands and what holds, of programs without sites
 

@@ -1,2 +1,4 @@
+pub mod Attempts
 pub mod Cutting
 pub mod Following
+pub mod Stubs

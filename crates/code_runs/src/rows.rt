@@ -1,9 +1,9 @@
 //! Acts in a row, as the contracts of functions that do nothing (docs/CODE.md, "What is proved").
 ghost use Rattle.std.specs.Prelude.{◌≡◌, ℕ, Bool, List, suc};
 ghost use Rattle.act_refines.specs.Between.{AreRelated};
-ghost use Rattle.act_refines.specs.Does.{DoesAct, MayCommit, frame_of, has_begun};
-ghost use Rattle.code_runs.specs.Cutting.{CutsWell};
-ghost use Rattle.code_runs.specs.Following.{ActsRun, HasEpochs, Leads, LeadsAgain, RunsAt, StandsFor};
+ghost use Rattle.act_refines.specs.Does.{frame_of, has_begun};
+ghost use Rattle.code_runs.specs.Cutting.{CutsWell, DoesWithin};
+ghost use Rattle.code_runs.specs.Following.{ActsRun, HasEpochs, Leads, LeadsAgain, RunsIn, StandsFor};
 ghost use Rattle.devices.specs.Journal.{Place};
 ghost use Rattle.line_laws.specs.Standing.{Lie};
 ghost use Rattle.run_plan.specs.Cells.{State};
@@ -16,12 +16,12 @@ ghost use Rattle.word_machine.specs.State.{Program};
 ghost use Rattle.word_machine.specs.Straight.{Spot};
 
 /// The code of an act that does its act is so at its place, cut anywhere, where no small step of the act is seen in part: so many
-/// steps from its top, the machine has shown just what a front of the act's small steps shows, in fewer steps than its weight,
+/// steps from its top, the machine has shown just what a front of the act's small steps shows, in fewer steps than it may take,
 /// and FRAM stands for the state behind them; or it has gone its way; or its trap is seen.
 pub fn an_act_runs_at_its_place()
-    ensures { (p : Program) (place_of : ℕ → Place) (d : Doing) (number : ℕ) (keeps : Bool) (a : Act) (at next : ℕ) → IsWellFormed (core_of d) → DoesAct p place_of d number keeps a MayCommit
+    ensures { (p : Program) (place_of : ℕ → Place) (d : Doing) (number : ℕ) (keeps : Bool) (most : State → ℕ) (a : Act) (at next : ℕ) → IsWellFormed (core_of d) → DoesWithin p place_of d number keeps most a
         → Lie p at (act_code (frame_of d number) keeps a at next) → ((m : Spot) (s : State) → m.pc ≡ at → AreRelated p d (has_begun a) m s → CutsWell p place_of d a m s)
-        → RunsAt p place_of d number (StandsFor (core_of d) d.scheme) HasEpochs a at next }
+        → RunsIn p place_of d number (StandsFor (core_of d) d.scheme) HasEpochs most a at next }
 {}
 
 /// Acts whose code each does its act at its place, cut anywhere, do so in a row: from where the row is entered the machine's
