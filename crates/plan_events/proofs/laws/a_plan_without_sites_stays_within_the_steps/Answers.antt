@@ -1,7 +1,0 @@
--- Of every run.
-use Rattle.plan_events.proofs.Runs.{plan_weighs}
-use Rattle.plan_events.proofs.laws.a_plan_without_sites_stays_within_the_steps.Goals as goal
-
-pub returns : goal.returns
-returns c = plan_weighs c.args.c.now c.args.world.now c.args.scheme c.a_statement_without_sites_shows_no_event.ensures c.a_run_s_failure_leaves_what_one_may.ensures
-    c.requires.formed c.requires.bare c.a_boot_finds_the_committed_store.ensures
