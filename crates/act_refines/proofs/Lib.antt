@@ -6,6 +6,7 @@ pub mod Copies
 pub mod Cuts
 pub mod Going
 pub mod Keeping
+pub mod Levels
 pub mod Places
 pub mod Records
 pub mod Regions

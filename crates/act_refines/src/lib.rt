@@ -1,10 +1,12 @@
 //! Laws on acts: the code of each act does on the machine what the plan's act does, cut anywhere.
 #![tactic(auto)]
 
+mod beginnings;
 mod cut;
 mod laws;
 mod memory;
 
+pub use beginnings::an_attempt_begins_under_bank_as_planned;
 pub use cut::{
     each_word_is_of_a_cell, every_cut_before_a_trap_shows_a_front, every_cut_shows_a_front,
 };
