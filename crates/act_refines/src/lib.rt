@@ -5,6 +5,7 @@ mod beginnings;
 mod cut;
 mod laws;
 mod memory;
+mod valued;
 
 pub use beginnings::an_attempt_begins_under_bank_as_planned;
 pub use cut::{
@@ -26,3 +27,4 @@ pub use memory::{
     memory_is_related_between_acts, no_target_keeps_memory, same_fram_keeps_cells,
     words_in_between_keep_memory,
 };
+pub use valued::{a_copy_is_noted, a_copy_is_valued_as_planned};
