@@ -4,7 +4,6 @@ use Rattle.std.proofs.Common.{◌≡◌, ◌∙◌, ℕ, ◌+◌, ◌-◌, ◌<�
 use Rattle.std.proofs.lemmas.Bool.Decides.{nat_tests}
 use Rattle.ease_base.specs.Found.{with_found}
 use Rattle.devices.specs.Journal as journal
-use Rattle.task_ast.specs.declared.core_form.Core.{Core}
 use Rattle.task_ast.specs.declared.core_form.CoreEnd.{CoreEnd}
 use Rattle.task_ast.specs.declared.core_form.CoreEnd.TheVariants as end
 use Rattle.task_ast.specs.declared.core_form.CoreExpr.{CoreExpr}
@@ -38,7 +37,7 @@ use Rattle.act_laws.specs.Codes.{Fixed}
 use Rattle.act_laws.specs.Values.{CopyDoes, CopyFound, CopyTested, IsOverEnd, copy_steps, fits, with_copy}
 use Rattle.layout_laws.specs.Layouts.{layout_of}
 use Rattle.cell_laws.specs.Standing.{worked}
-use Rattle.act_refines.specs.Between.{AreRelated, MemoryStands, fixed_in, with_rest}
+use Rattle.act_refines.specs.Between.{MemoryStands, fixed_in, with_rest}
 use Rattle.act_refines.specs.Copied.{CopyFits, HasSpace}
 use Rattle.act_refines.specs.Does.{DoesAct, Ends, Nothing, frame_of}
 use Rattle.act_refines.proofs.Calls.{IsRelatedThere, TempsKeep, based}

@@ -30,14 +30,14 @@ use Rattle.run_plan.specs.Weights.{begin_words, level_words}
 use Rattle.run_plan.specs.Words.{home_places, restore_writes}
 use Rattle.word_code.specs.Beginnings.{home_count, home_words, level_count, volatile_count}
 use Rattle.word_code.specs.Frames as code
-use Rattle.act_laws.specs.Blocks.{Copy, array_copies, array_starts, copies, home_items, homes, list_atoms, list_code, list_makes, word_copies}
+use Rattle.act_laws.specs.Blocks.{Copy, array_copies, copies, home_items, homes, list_atoms, list_code, list_makes, word_copies}
 use Rattle.act_laws.specs.Codes.{Fixed, HasFixed}
 use Rattle.act_laws.specs.Templates.{BeginDoes}
 use Rattle.cell_laws.specs.Standing.{beside, worked}
 use Rattle.cell_laws.proofs.Puts.{miss}
 use Rattle.cell_laws.proofs.Writes.{beside_low, worked_low}
 use Rattle.ram_laws.specs.Ram.{HasRam}
-use Rattle.act_refines.specs.Between.{MemoryStands, committed_at, fixed_in}
+use Rattle.act_refines.specs.Between.{committed_at, fixed_in}
 use Rattle.act_refines.specs.Does.{AreHomes, DoesAct, Ends, Nothing, frame_of}
 use Rattle.act_refines.specs.Seen.{Seen, behind, tells, trace_seen}
 use Rattle.act_refines.proofs.Begins.{begun_frame, begun_memory_of, begun_ram, few_pointers, fram_there, with_arrays}

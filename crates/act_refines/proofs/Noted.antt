@@ -1,5 +1,5 @@
 -- What a copy was valued at is noted: its ends with their rooms, its length and its class.
-use Rattle.std.specs.Prelude.{nat_lt, slice_get, Option, Some, None}
+use Rattle.std.specs.Prelude.{nat_lt, slice_get, Some}
 use Rattle.std.proofs.Common.{◌≡◌, ◌≢◌, ◌∙◌, ℕ, zero, suc, ◌+◌, ◌-◌, ◌^◌, ◌<◌, ◌≤◌, Bool, true, false, List, [], ◌∷◌, length, refl, sym, ap, subst, arith}
 use Rattle.std.proofs.lemmas.Bool.Decides.{nat_tests}
 use Rattle.fram_ram.specs.Memories.{put}
@@ -9,7 +9,7 @@ use Rattle.task_ast.specs.declared.core_form.Array.{Array}
 use Rattle.task_ast.specs.declared.core_form.Core.{Core}
 use Rattle.task_ast.specs.declared.core_form.CoreTask.{CoreTask}
 use Rattle.task_ast.specs.WellFormed.{IsWellFormed}
-use Rattle.task_attempts.specs.Copies.{class_at, memory_at, memory_or_ram}
+use Rattle.task_attempts.specs.Copies.{memory_at, memory_or_ram}
 use Rattle.region_split.specs.declared.class.Memory.{Memory}
 use Rattle.region_split.specs.declared.class.Memory.TheVariants.{Fram, ConstFram, Ram}
 use Rattle.region_split.specs.Class.{class_of, memory_of}
@@ -22,7 +22,7 @@ use Rattle.line_code.specs.declared.areas.Placed.{Placed}
 use Rattle.line_code.specs.Areas.{area_at, area_of, areas_from, free_at_first, free_of}
 use Rattle.run_plan.specs.Cells.{CopyValued, Frame, State}
 use Rattle.run_plan.specs.Small.{Doing, core_of}
-use Rattle.line_laws.specs.Relation.{base_at, place_address, room_at}
+use Rattle.line_laws.specs.Relation.{room_at}
 use Rattle.word_code.specs.Beginnings.{AreLow}
 use Rattle.word_code.specs.Frames.{begun_at, outer_at}
 use Rattle.act_laws.specs.Values.{with_copy}
