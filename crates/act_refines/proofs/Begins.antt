@@ -99,7 +99,7 @@ fresh_fits f (x ∷ arrays) (w ∷ old) zero i fit long is low =
     subst (λ ws. slice_index ws i < 2 ^ 32) (sym (vol_here f x.kind x.first w is)) (word_in x.first i fit.0.2 (subst (λ n. i < n) (vol_room f x.kind x.first) low))
 fresh_fits f (x ∷ arrays) (w ∷ old) (suc a) i fit long is low = fresh_fits (free_of f x.kind (length x.first)) arrays old a i fit.1 (omega (arith, long)) is low
 
-few_pointers : (c : Core) → IsWellFormed c → length c.pointers ≤ 256
+pub few_pointers : (c : Core) → IsWellFormed c → length c.pointers ≤ 256
 few_pointers c w =
     let few : length (core_names c) ≤ 256 = w.few_names in
     omega (
@@ -124,17 +124,17 @@ some_is f x y same = cc same
 
 -- ---- RAM behind a beginning
 
-abbrev begun_frame : Frame
+abbrev pub begun_frame : Frame
 begun_frame = record no_frame { mode = Some mode.Own }
 
 -- the memory behind it
-abbrev with_mode : (ℕ → ℕ) → ℕ → ℕ
+abbrev pub with_mode : (ℕ → ℕ) → ℕ → ℕ
 with_mode m = put m 1048615 0
 
-abbrev with_pointers : Core → (ℕ → ℕ) → ℕ → ℕ
+abbrev pub with_pointers : Core → (ℕ → ℕ) → ℕ → ℕ
 with_pointers c m = list_makes pointers (pointer_cells 0 (length c.pointers)) (with_mode m)
 
-abbrev with_arrays : Core → (ℕ → ℕ) → ℕ → ℕ
+abbrev pub with_arrays : Core → (ℕ → ℕ) → ℕ → ℕ
 with_arrays c m = list_makes starts (array_starts 832 c.arrays) (with_pointers c m)
 
 module _ (c : Core) (well : IsWellFormed c) (m : ℕ → ℕ) where
@@ -190,12 +190,11 @@ not_volatile r other b is same = other (sym is ∙ same)
 fresh_stays : (c : Core) (old : Store) (r : ℕ) → r ≢ 15 → (a : ℕ) → base_at (layout_of c 0) a ≡ r → words_of (fresh c old) a ≡ words_of old a
 fresh_stays c old r other a is = fresh_other free_at_first c.arrays old.words a (not_volatile r other (base_at (layout_of c 0) a) is)
 
-begun_memory : FramKeeps → (p : Program) (d : Doing) (m counts : ℕ → ℕ) (s : State) → IsWellFormed (core_of d) → MemoryStands p d false m counts s → MemoryStands p d true (with_arrays (core_of d) m) counts (begun_state (core_of d) s)
-begun_memory fram p d m counts s well h =
+pub begun_memory_of : (p : Program) (d : Doing) (n counts : ℕ → ℕ) (s : State) → IsWellFormed (core_of d) → MemoryStands p d false n counts s → HasRam (core_of d) (worked d.scheme s.bank) n (fresh (core_of d) s.store) begun_frame
+    → MemoryStands p d true n counts (begun_state (core_of d) s)
+begun_memory_of p d n counts s well same ram =
     let c : Core = core_of d in
-    let n : ℕ → ℕ = with_arrays c m in
-    let same : MemoryStands p d false n counts s = fram p d m n counts s well h (fram_there c well m) in
-    let tidy : IsTidy c d.scheme s = h.tidy in
+    let tidy : IsTidy c d.scheme s = same.tidy in
     record {
       cells = record {
         store = record {
@@ -207,7 +206,7 @@ begun_memory fram p d m counts s well h =
       };
       constants = arrays_stay c 0 n n s.store (fresh c s.store) (λ a is. ap length (fresh_stays c s.store 0 (λ e. absurd (omega (arith, e))) a is))
           (λ at here. ap (λ (ws : List ℕ). slice_index ws at.index) (fresh_stays c s.store 0 (λ e. absurd (omega (arith, e))) at.array here.counts)) (λ at here. refl) same.constants;
-      ram = begun_ram c well m (worked d.scheme s.bank) s.store tidy.shape.homes;
+      ram = ram;
       readings = same.readings;
       tidy = record {
         shape = record { homes = fresh_long c.arrays s.store.words tidy.shape.homes; others = tidy.shape.others };
@@ -219,6 +218,10 @@ begun_memory fram p d m counts s well h =
         bank = tidy.bank;
       };
     }
+
+begun_memory : FramKeeps → (p : Program) (d : Doing) (m counts : ℕ → ℕ) (s : State) → IsWellFormed (core_of d) → MemoryStands p d false m counts s → MemoryStands p d true (with_arrays (core_of d) m) counts (begun_state (core_of d) s)
+begun_memory fram p d m counts s well h =
+    begun_memory_of p d (with_arrays (core_of d) m) counts s well (fram p d m (with_arrays (core_of d) m) counts s well h (fram_there (core_of d) well m)) (begun_ram (core_of d) well m (worked d.scheme s.bank) s.store h.tidy.shape.homes)
 
 -- ---- no home is brought level
 

@@ -3,9 +3,12 @@ pub mod Calls
 pub mod Choices
 pub mod Commits
 pub mod Copies
+pub mod CopyValues
 pub mod Cuts
 pub mod Going
 pub mod Keeping
+pub mod Levels
+pub mod Noted
 pub mod Places
 pub mod Records
 pub mod Regions

@@ -41,10 +41,10 @@ use Rattle.act_refines.proofs.Simple.{WritesKeep}
 -- ---- words in a row
 
 -- copies that make what these small steps make, and show it
-record Moved (p : Program) (place_of : ℕ → journal.Place) (d : Doing) (begun : Bool) (m counts : ℕ → ℕ) (s : State) (cs : List Copy) (atoms : List Atom) : Type 0 where
-  memory : MemoryStands p d begun (list_makes copies cs m) counts (behind (core_of d) atoms s)
-  shown : trace_seen place_of (list_atoms copies cs m) ≡ steps_seen (core_of d) d.scheme atoms s
-  fixed : fixed_in d.scheme (behind (core_of d) atoms s) ≡ fixed_in d.scheme s
+pub record Moved (p : Program) (place_of : ℕ → journal.Place) (d : Doing) (begun : Bool) (m counts : ℕ → ℕ) (s : State) (cs : List Copy) (atoms : List Atom) : Type 0 where
+  pub memory : MemoryStands p d begun (list_makes copies cs m) counts (behind (core_of d) atoms s)
+  pub shown : trace_seen place_of (list_atoms copies cs m) ≡ steps_seen (core_of d) d.scheme atoms s
+  pub fixed : fixed_in d.scheme (behind (core_of d) atoms s) ≡ fixed_in d.scheme s
 
 -- one word before the others
 one_before : (p : Program) (place_of : ℕ → journal.Place) (d : Doing) (begun : Bool) (m counts : ℕ → ℕ) (s t : State) (from to word : ℕ) (cs : List Copy) (atoms : List Atom) → m from ≡ word → Moved p place_of d begun (put m to word) counts t cs atoms
@@ -74,7 +74,7 @@ module _ (keep : WritesKeep) (p : Program) (place_of : ℕ → journal.Place) (d
       (copies_of c (worked d.scheme s.bank) (beside d.scheme s.bank) places) (map silent (map (λ at. puts_aside at (word at)) places)) from_is rest in
       record { memory = both.0; shown = both.1; fixed = rest.fixed }
 
-  restore_goes : (places : List Place) (m : ℕ → ℕ) (s : State) (word : Place → ℕ) → AllHomes c places → ((at : Place) → word at ≡ aside_at s at) → MemoryStands p d begun m counts s
+  pub restore_goes : (places : List Place) (m : ℕ → ℕ) (s : State) (word : Place → ℕ) → AllHomes c places → ((at : Place) → word at ≡ aside_at s at) → MemoryStands p d begun m counts s
       → Moved p place_of d begun m counts s (copies_of c (beside d.scheme s.bank) (worked d.scheme s.bank) places) (map silent (map (λ at. puts_home at (word at)) places))
   restore_goes [] m s word homes same h = record { memory = h; shown = refl; fixed = refl }
   restore_goes (at ∷ places) m s word homes same h =

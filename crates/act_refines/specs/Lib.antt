@@ -1,3 +1,4 @@
 pub mod Between
+pub mod Copied
 pub mod Does
 pub mod Seen

@@ -1,10 +1,13 @@
 //! Laws on acts: the code of each act does on the machine what the plan's act does, cut anywhere.
 #![tactic(auto)]
 
+mod beginnings;
 mod cut;
 mod laws;
 mod memory;
+mod valued;
 
+pub use beginnings::an_attempt_begins_under_bank_as_planned;
 pub use cut::{
     each_word_is_of_a_cell, every_cut_before_a_trap_shows_a_front, every_cut_shows_a_front,
 };
@@ -24,3 +27,4 @@ pub use memory::{
     memory_is_related_between_acts, no_target_keeps_memory, same_fram_keeps_cells,
     words_in_between_keep_memory,
 };
+pub use valued::{a_copy_is_noted, a_copy_is_valued_as_planned};
