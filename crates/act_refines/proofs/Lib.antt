@@ -5,6 +5,9 @@ pub mod Commits
 pub mod Copies
 pub mod Cuts
 pub mod Going
+pub mod Kept
+pub mod Legs
+pub mod Moved
 pub mod Keeping
 pub mod Places
 pub mod Records

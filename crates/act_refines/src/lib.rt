@@ -4,6 +4,7 @@
 mod cut;
 mod laws;
 mod memory;
+mod transfers;
 
 pub use cut::{
     each_word_is_of_a_cell, every_cut_before_a_trap_shows_a_front, every_cut_shows_a_front,
@@ -23,4 +24,8 @@ pub use memory::{
     a_note_keeps_memory, a_target_keeps_memory, a_write_keeps_memory, arguments_keep_memory,
     memory_is_related_between_acts, no_target_keeps_memory, same_fram_keeps_cells,
     words_in_between_keep_memory,
+};
+pub use transfers::{
+    kept_words_are_put_as_planned, words_are_kept_as_planned, words_come_back_as_planned,
+    words_go_across_as_planned, words_go_aside_as_planned,
 };
