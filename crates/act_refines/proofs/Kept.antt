@@ -1,5 +1,5 @@
 -- Words go to the kept words, one after another.
-use Rattle.std.specs.Prelude.{◌==◌, ◌||◌, ◌&&◌, nat_le, nat_lt, map, slice_index, drop, take, if◌then◌else◌, Option, Some, None}
+use Rattle.std.specs.Prelude.{map, slice_index, drop, take, if◌then◌else◌, Option, Some, None}
 use Rattle.std.proofs.Common.{◌≡◌, ◌≢◌, ◌∙◌, ℕ, zero, suc, ◌+◌, ◌*◌, ◌^◌, ◌<◌, ◌≤◌, Bool, true, false, List, [], ◌∷◌, ◌++◌, length, refl, sym, ap, subst, arith}
 use Rattle.std.proofs.lemmas.Bool.Decides.{nat_tests}
 use Rattle.devices.specs.Journal as journal

@@ -111,9 +111,8 @@ from_kept_does template areas keep fram relates apart p place_of d number inner 
         let n : ℕ = s.cells.length k in
         let to : ℕ = address_in c (worked d.scheme s.bank) at in
         let from : ℕ = 7042 + kept_at d k in
-        let ws : List ℕ = recorded_words d k s in
-        let writes : List Write = put_writes at ws in
-        let after : Store = put_words at ws s.store in
+        let writes : List Write = put_writes at (recorded_words d k s) in
+        let after : Store = put_words at (recorded_words d k s) s.store in
         let left : ℕ → ℕ = copied to from 0 n m.store in
         let made : HasCopy (address_in c (worked d.scheme s.bank)) m.store s.cells k = copy_record p d k most m s here site_is related asks.recorded.held in
         let moves : Copies c (layout_of c (worked d.scheme s.bank)) (length c.pointers) m to from 0 n m.store s.store writes after = puts_goes apart relates p d k m s at well related asks.recorded is in

@@ -1,5 +1,5 @@
 -- Words go to a copy's destination, one after another: to homes, which are seen, or to volatile words.
-use Rattle.std.specs.Prelude.{◌||◌, ◌&&◌, nat_le, nat_lt, ◌==◌, map, slice_get, if◌then◌else◌, Option, Some, None}
+use Rattle.std.specs.Prelude.{◌==◌, map, slice_get, if◌then◌else◌, Option, Some, None}
 use Rattle.std.specs.List.{AllByRecursion, range_with_len}
 use Rattle.std.proofs.Common.{◌≡◌, ◌≢◌, ◌∙◌, ℕ, zero, suc, ◌+◌, ◌-◌, ◌*◌, ◌^◌, ◌<◌, ◌≤◌, Bool, true, false, List, [], ◌∷◌, ◌++◌, length, length-set, refl, sym, ap, subst, arith}
 use Rattle.std.proofs.lemmas.Bool.Decides.{nat_tests}
