@@ -6,6 +6,9 @@ pub mod Copies
 pub mod CopyValues
 pub mod Cuts
 pub mod Going
+pub mod Kept
+pub mod Legs
+pub mod Moved
 pub mod Keeping
 pub mod Levels
 pub mod Noted

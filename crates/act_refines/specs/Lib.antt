@@ -1,4 +1,5 @@
 pub mod Between
 pub mod Copied
 pub mod Does
+pub mod Moves
 pub mod Seen

@@ -5,6 +5,7 @@ mod beginnings;
 mod cut;
 mod laws;
 mod memory;
+mod transfers;
 mod valued;
 
 pub use beginnings::an_attempt_begins_under_bank_as_planned;
@@ -26,5 +27,9 @@ pub use memory::{
     a_note_keeps_memory, a_target_keeps_memory, a_write_keeps_memory, arguments_keep_memory,
     memory_is_related_between_acts, no_target_keeps_memory, same_fram_keeps_cells,
     words_in_between_keep_memory,
+};
+pub use transfers::{
+    kept_words_are_put_as_planned, words_are_kept_as_planned, words_come_back_as_planned,
+    words_go_across_as_planned, words_go_aside_as_planned,
 };
 pub use valued::{a_copy_is_noted, a_copy_is_valued_as_planned};
