@@ -1,0 +1,4 @@
+pub mod Acts
+pub mod Boots
+pub mod Lasting
+pub mod Runs

@@ -1,0 +1,2 @@
+//! Runs of compiled code over power rows: boot by boot they follow the plan's run.
+#![tactic(auto)]
