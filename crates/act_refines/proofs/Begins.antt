@@ -1,11 +1,10 @@
 -- An attempt begins, under `undo`: memory stands for fresh volatile words, pointers at nothing, and the mode Own.
-use Rattle.std.specs.Prelude.{◌==◌, filter, map, slice_index, slice_index_or, sum_by, Option, Some, None}
+use Rattle.std.specs.Prelude.{map, slice_index, slice_index_or, Some, None}
 use Rattle.std.specs.List.{AllByRecursion}
 use Rattle.std.proofs.Common.{◌≡◌, ◌≢◌, ◌∙◌, ℕ, zero, suc, ◌+◌, ◌*◌, ◌^◌, ◌<◌, ◌≤◌, Bool, true, false, List, [], ◌∷◌, ◌++◌, length, length-append, refl, sym, ap, subst, arith, eqb-true}
 use Rattle.devices.specs.Journal as journal
 use Rattle.devices.specs.declared.event.Event.TheVariants as the
 use Rattle.fram_ram.specs.Memories.{put}
-use Rattle.io_annot.specs.declared.choice.Mode.{Mode}
 use Rattle.io_annot.specs.declared.choice.Mode.TheVariants as mode
 use Rattle.task_ast.specs.declared.tree.Kind.{Kind}
 use Rattle.task_ast.specs.declared.tree.Kind.TheVariants.{Nv, Const, Vol}
@@ -14,7 +13,7 @@ use Rattle.task_ast.specs.declared.core_form.Core.{Core}
 use Rattle.task_ast.specs.Readable.{IsWord}
 use Rattle.task_ast.specs.WellFormed.{IsCoreArray, IsWellFormed, core_names}
 use Rattle.walk_run.specs.declared.place.Place.{Place}
-use Rattle.walk_run.specs.Store.{Store, fresh, fresh_arrays, fresh_words, place, unset, word_at, words_of}
+use Rattle.walk_run.specs.Store.{Store, fresh, fresh_arrays, fresh_words, unset, words_of}
 use Rattle.word_isa.specs.declared.parts.Scheme.{Scheme}
 use Rattle.word_isa.specs.declared.parts.Scheme.TheVariants.{Undo, Bank}
 use Rattle.word_machine.specs.State.{Program}
@@ -23,23 +22,24 @@ use Rattle.word_machine.specs.Traces as trace
 use Rattle.line_code.specs.declared.areas.Free.{Free}
 use Rattle.line_code.specs.Areas.{area_at, area_of, areas_from, free_at_first, free_of, pointer_at}
 use Rattle.run_plan.specs.declared.act.Act.TheVariants as act
-use Rattle.run_plan.specs.Cells.{Frame, State, no_frame, with_words}
+use Rattle.run_plan.specs.Cells.{Frame, State, no_frame}
 use Rattle.run_plan.specs.Deeds.{begin_writes, begun_state}
 use Rattle.run_plan.specs.Small.{Doing, ahead, core_of, does, showing, silent}
 use Rattle.run_plan.specs.Weights.{begin_words}
-use Rattle.line_laws.specs.Relation.{Points, base_at, base_word, offset_at, place_address, room_at}
+use Rattle.line_laws.specs.Relation.{Points, base_at, base_word}
 use Rattle.word_code.specs.Beginnings.{level_count, volatile_count}
 use Rattle.word_code.specs.Frames as code
-use Rattle.act_laws.specs.Blocks.{array_starts, home_items, homes, list_atoms, list_code, list_makes, pointer_cells, pointers, starts, Home, begun_store}
-use Rattle.act_laws.specs.Codes.{Acts, End, Fixed, top}
+use Rattle.act_laws.specs.Blocks.{array_starts, home_items, homes, list_atoms, list_code, list_makes, pointer_cells, pointers, starts}
+use Rattle.act_laws.specs.Codes.{Fixed}
 use Rattle.act_laws.specs.Templates.{BeginDoes}
-use Rattle.layout_laws.specs.Layouts.{LieInAreas, layout_of}
-use Rattle.cell_laws.specs.Standing.{IsHome, Stands, address_in, worked}
+use Rattle.layout_laws.specs.Layouts.{layout_of}
+use Rattle.cell_laws.proofs.Seals.{some_is}
+use Rattle.cell_laws.specs.Standing.{worked}
 use Rattle.cell_laws.proofs.Puts.{hit, miss}
 use Rattle.cell_laws.proofs.Writes.{worked_low}
-use Rattle.ram_laws.specs.Ram.{AreWhole, HasArrays, HasFrame, HasPointers, HasRam, IsPlaceOf}
+use Rattle.ram_laws.specs.Ram.{HasArrays, HasFrame, HasPointers, HasRam}
 use Rattle.ram_laws.proofs.Stays.{arrays_stay}
-use Rattle.act_refines.specs.Between.{IsBank, IsTidy, MemoryStands, committed_at, fixed_in}
+use Rattle.act_refines.specs.Between.{IsTidy, MemoryStands, committed_at, fixed_in}
 use Rattle.act_refines.specs.Does.{DoesAct, Ends, Nothing, frame_of}
 use Rattle.act_refines.specs.Seen.{trace_seen}
 use Rattle.act_laws.specs.Words.{mode_word}
@@ -118,9 +118,6 @@ unset_is (n ∷ names) (suc q) = unset_is names q
 unset_long : {A : Type 0} (names : List A) → length (unset names) ≡ length names
 unset_long [] = refl
 unset_long (n ∷ names) = omega (arith, unset_long names)
-
-some_is : {A B : Type 0} (f : A → B) (x y : A) → Some x ≡ Some y → f x ≡ f y
-some_is f x y same = cc same
 
 -- ---- RAM behind a beginning
 

@@ -1,16 +1,14 @@
 -- Acts that value: tests and calls.
-use Rattle.std.specs.Prelude.{◌==◌, ◌&&◌, cond, min, nat_le, nat_lt, slice_get, slice_index, take, Option, Some, None, Result, Ok, Err, if◌then◌else◌}
-use Rattle.std.proofs.Common.{◌≡◌, ◌≢◌, ◌∙◌, ℕ, zero, suc, ◌+◌, ◌-◌, ◌^◌, ◌<◌, ◌≤◌, Bool, true, false, List, [], ◌∷◌, ◌++◌, length, refl, sym, ap, subst, arith, eqb-true, eq-eqb}
-use Rattle.std.proofs.lemmas.Bool.Decides.{nat_tests}
+use Rattle.std.specs.Prelude.{◌==◌, cond, min, slice_get, slice_index, Option, Some, None, Result, Ok, Err, if◌then◌else◌}
+use Rattle.std.proofs.Common.{◌≡◌, ◌≢◌, ◌∙◌, ℕ, zero, suc, ◌+◌, ◌-◌, ◌^◌, ◌<◌, ◌≤◌, Bool, true, false, List, [], ◌∷◌, ◌++◌, length, refl, sym, ap, subst, arith, eqb-true}
 use Rattle.ease_base.specs.Found.{with_found}
 use Rattle.ease_base.specs.declared.place.Peripheral.{Peripheral}
 use Rattle.devices.specs.Journal.{Place, arguments_of, issues}
-use Rattle.devices.specs.Reading.{reading, reading_in, values_in}
+use Rattle.devices.specs.Reading.{reading, reading_in}
 use Rattle.devices.specs.Readings.{issued_after, one_more}
 use Rattle.fram_ram.specs.Memories.{put}
 use Rattle.task_attempts.specs.Calls as calls
 use Rattle.task_attempts.specs.Changes as changes
-use Rattle.task_ast.specs.declared.core_form.Core.{Core}
 use Rattle.task_ast.specs.declared.core_form.CoreExpr.{CoreExpr}
 use Rattle.task_ast.specs.declared.core_form.CoreStmt.{CoreStmt}
 use Rattle.task_ast.specs.declared.core_form.CoreStmt.TheVariants as stmt
@@ -32,24 +30,24 @@ use Rattle.line_code.specs.Sizes.{expr_size}
 use Rattle.line_code.specs.Areas.{area_at, areas_from, free_at_first}
 use Rattle.run_plan.specs.declared.act.Act.TheVariants as act
 use Rattle.run_plan.specs.Cells.{State}
-use Rattle.run_plan.specs.Deeds.{all_values, target_found, value_done, issue_done}
+use Rattle.run_plan.specs.Deeds.{all_values, value_done, issue_done}
 use Rattle.run_plan.specs.Finding.{statement_of}
-use Rattle.run_plan.specs.Small.{Doing, Done, Way, ahead, core_of, does, first_way, have, second_way, same, sets_frame, showing, unless_fails}
+use Rattle.run_plan.specs.Small.{Doing, Done, ahead, core_of, does, first_way, have, second_way, same, sets_frame, showing, unless_fails}
 use Rattle.run_plan.specs.Weights.{value_weight, values_steps}
 use Rattle.line_laws.specs.Gives.{is_temp}
-use Rattle.line_laws.specs.Relation.{Layout, Related, base_at, base_word, from_at, place_address, room_at}
+use Rattle.line_laws.specs.Relation.{Layout, Related, base_at, base_word, room_at}
 use Rattle.line_laws.specs.Standing.{Lie}
 use Rattle.line_laws.specs.Suits.{IsOverTarget}
 use Rattle.word_code.specs.ActCode.{entry, test_code}
 use Rattle.word_code.specs.Acts.{jump, issue_code}
 use Rattle.word_code.specs.Finding.{statement_at}
 use Rattle.word_code.specs.Frames as frames
-use Rattle.word_code.specs.Frames.{Frame, peripheral_number}
+use Rattle.word_code.specs.Frames.{Frame}
 use Rattle.word_code.specs.Sizes.{row_size}
 use Rattle.word_code.specs.Values.{value_code}
-use Rattle.act_laws.specs.Codes.{Acts, Fixed, HasFixed, shaped, top}
+use Rattle.act_laws.specs.Codes.{Fixed, shaped}
 use Rattle.act_laws.specs.Templates.{IssueDoes, Issues}
-use Rattle.act_laws.specs.Values.{AreArguments, Argued, Based, CallDoes, Nearly, TargetCallDoes, TestDoes, Tested, Traps, address_found, arguments_steps, with_arguments, with_more}
+use Rattle.act_laws.specs.Values.{AreArguments, Argued, Based, CallDoes, TargetCallDoes, TestDoes, Tested, address_found, arguments_steps, with_arguments, with_more}
 use Rattle.act_laws.specs.Words.{cell_args}
 use Rattle.layout_laws.specs.Layouts.{layout_of}
 use Rattle.cell_laws.specs.Standing.{address_in, worked}

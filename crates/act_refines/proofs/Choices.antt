@@ -1,6 +1,6 @@
 -- Acts that choose: a call by its record and the mode, a copy by its record, and the ends of blocks.
 use Rattle.std.specs.Prelude.{◌==◌, cond, not, Option, Some, None, slice_get, if◌then◌else◌}
-use Rattle.std.proofs.Common.{◌≡◌, ◌≢◌, ◌∙◌, ℕ, ◌+◌, ◌-◌, ◌^◌, ◌<◌, ◌≤◌, Bool, true, false, List, [], ◌∷◌, ◌++◌, refl, sym, ap, subst, append_assoc, arith, eqb-true}
+use Rattle.std.proofs.Common.{◌≡◌, ◌∙◌, ℕ, ◌+◌, ◌-◌, ◌^◌, ◌<◌, ◌≤◌, Bool, true, false, List, [], ◌++◌, refl, sym, ap, subst, append_assoc, arith, eqb-true}
 use Rattle.devices.specs.Journal.{Place}
 use Rattle.fram_ram.specs.Memories.{put}
 use Rattle.io_annot.specs.declared.choice.Choice.{Choice}
@@ -12,18 +12,17 @@ use Rattle.block_scope.specs.Enter.{entered}
 use Rattle.task_ast.specs.declared.tree.Ann.{Ann}
 use Rattle.task_ast.specs.declared.core_form.Site.{Site}
 use Rattle.task_ast.specs.declared.core_form.Site.TheVariants as site
-use Rattle.task_ast.specs.WellFormed.{IsWellFormed}
 use Rattle.task_attempts.specs.Calls.{annotation_of}
 use Rattle.task_attempts.specs.Changes as changes
 use Rattle.word_machine.specs.State.{Program}
 use Rattle.word_machine.specs.Straight.{Spot}
 use Rattle.line_code.specs.declared.line.Line.{Line}
-use Rattle.run_plan.specs.declared.act.Act.{Act, Row_of-Act}
+use Rattle.run_plan.specs.declared.act.Act.{Row_of-Act}
 use Rattle.run_plan.specs.declared.act.Act.TheVariants as act
 use Rattle.run_plan.specs.Cells as kept
 use Rattle.run_plan.specs.Cells.{State}
 use Rattle.run_plan.specs.Deeds.{by_choice, choose_done, leaving, reading_held, stamp_held}
-use Rattle.run_plan.specs.Small.{Doing, Way, ahead, first_way, second_way, core_of, does, flag_holds, have, same, sets_frame}
+use Rattle.run_plan.specs.Small.{Doing, first_way, second_way, core_of, does, flag_holds, have, same, sets_frame}
 use Rattle.run_plan.specs.Weights.{choose_weight}
 use Rattle.line_laws.specs.Standing.{Lie, lie_front}
 use Rattle.word_code.specs.ActCode.{entry}
@@ -32,13 +31,13 @@ use Rattle.word_code.specs.Frames as frames
 use Rattle.word_code.specs.Frames.{Frame, begun_at, flag_at, outer_at, stamp_at}
 use Rattle.word_code.specs.Sizes.{row_size}
 use Rattle.word_code.specs.Tables.{ann_of, branch, enter_code, keeps_code, keeps_size, leave_code}
-use Rattle.act_laws.specs.Codes.{Acts, End, Fixed, top}
+use Rattle.act_laws.specs.Codes.{Fixed}
 use Rattle.act_laws.specs.Templates.{ChooseCopyDoes, ChooseDoes, EnterDoes, LeaveDoes}
 use Rattle.act_laws.specs.Words.{Around, FitsLimit, is_keep, is_kept, mode_word, record_in, stamp_in}
 use Rattle.cell_laws.specs.Standing.{HasRecord, IsSite, address_in, worked}
 use Rattle.ram_laws.specs.Notes.{notes_begun, notes_mode, notes_outer}
 use Rattle.ram_laws.specs.Ram.{HasWord}
-use Rattle.act_refines.specs.Between.{AreRelated, MemoryStands, fixed_in, with_rest}
+use Rattle.act_refines.specs.Between.{AreRelated, fixed_in, with_rest}
 use Rattle.act_refines.specs.Does.{DoesAct, Ends, IsEarlier, Nothing, frame_of, way_at, way_to}
 use Rattle.act_refines.proofs.Going.{goes_on, related_at}
 use Rattle.act_refines.proofs.Records.{at_site}

@@ -1,6 +1,6 @@
 -- A commit does its act: one word, and memory stands for what any next task begins with.
-use Rattle.std.specs.Prelude.{◌==◌, ◌⊎◌, min, Option, Some, None, slice_index, slice_index_or, if◌then◌else◌}
-use Rattle.std.proofs.Common.{◌≡◌, ◌≢◌, ◌∙◌, ℕ, zero, suc, ◌+◌, ◌-◌, ◌*◌, ◌/◌, ◌%◌, ◌^◌, ◌<◌, ◌≤◌, inl, inr, Bool, true, false, List, [], ◌∷◌, ◌++◌, length, refl, sym, ap, subst, arith}
+use Rattle.std.specs.Prelude.{◌==◌, ◌⊎◌, min, slice_index, slice_index_or, if◌then◌else◌}
+use Rattle.std.proofs.Common.{◌≡◌, ◌∙◌, ℕ, zero, suc, ◌+◌, ◌-◌, ◌*◌, ◌/◌, ◌%◌, ◌^◌, ◌<◌, ◌≤◌, inl, inr, Bool, true, false, List, [], ◌∷◌, length, refl, sym, ap, subst, arith}
 use Rattle.devices.specs.Journal.{Place}
 use Rattle.devices.specs.declared.event.Event.TheVariants as the
 use Rattle.fram_ram.specs.Memories.{put}
@@ -11,7 +11,7 @@ use Rattle.task_ast.specs.declared.core_form.Core.{Core}
 use Rattle.task_ast.specs.declared.core_form.CoreTask.{CoreTask}
 use Rattle.task_ast.specs.WellFormed.{IsWellFormed}
 use Rattle.walk_run.specs.declared.place.Place as walked
-use Rattle.walk_run.specs.Store.{Store, word_at, words_of}
+use Rattle.walk_run.specs.Store.{Store, words_of}
 use Rattle.word_isa.specs.declared.parts.Scheme.{Scheme}
 use Rattle.word_isa.specs.declared.parts.Scheme.TheVariants.{Undo, Bank}
 use Rattle.word_machine.specs.State.{Program}
@@ -21,19 +21,19 @@ use Rattle.line_code.specs.declared.areas.Free.{Free}
 use Rattle.line_code.specs.Areas.{area_at, area_of, areas_from, free_at_first, free_of}
 use Rattle.line_laws.specs.Relation.{base_at}
 use Rattle.run_plan.specs.declared.act.Act.TheVariants as act
-use Rattle.run_plan.specs.Cells.{CellWrite, State, after_write, joined, of_home, puts_state, turned, with_words}
+use Rattle.run_plan.specs.Cells.{State, after_write, joined, of_home, puts_state, turned, with_words}
 use Rattle.run_plan.specs.Deeds.{next_bank}
 use Rattle.run_plan.specs.Small.{Doing, core_of}
 use Rattle.word_code.specs.Frames.{Frame, stride, stub_at}
-use Rattle.act_laws.specs.Codes.{Acts, End, Fixed, HasFixed, top}
+use Rattle.act_laws.specs.Codes.{Acts, Fixed, HasFixed, top}
 use Rattle.act_laws.specs.Templates.{CommitDoes}
 use Rattle.act_laws.specs.Words.{fixed_of, state_word}
 use Rattle.layout_laws.specs.Layouts.{LieInAreas, layout_of}
-use Rattle.cell_laws.specs.Standing.{CommitFits, HaveHomes, IsSite, Stands, address_in, word_of, worked}
+use Rattle.cell_laws.specs.Standing.{CommitFits, HaveHomes, Stands, address_in, word_of, worked}
 use Rattle.cell_laws.proofs.Puts.{below}
-use Rattle.ram_laws.specs.Ram.{AreWhole, HasConstants, IsPlaceOf}
+use Rattle.ram_laws.specs.Ram.{AreWhole, HasConstants}
 use Rattle.ram_laws.proofs.Stays.{arrays_stay, constant_in}
-use Rattle.act_refines.specs.Between.{HasReadings, IsBank, IsTidy, MemoryStands, committed_at, fixed_in}
+use Rattle.act_refines.specs.Between.{IsBank, IsTidy, committed_at, fixed_in}
 use Rattle.act_refines.specs.Does.{DoesAct, MayCommit, frame_of}
 use Rattle.act_refines.proofs.Going.{goes_on, related_at}
 

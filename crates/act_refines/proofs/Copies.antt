@@ -1,22 +1,20 @@
 -- The acts of copies that move no words: a record is sealed, and a copy goes by its class.
 use Rattle.std.specs.Prelude.{◌==◌, cond, Option, Some, None, slice_get, if◌then◌else◌}
-use Rattle.std.proofs.Common.{◌≡◌, ◌≢◌, ◌∙◌, ℕ, ◌+◌, ◌-◌, ◌<◌, ◌≤◌, Bool, true, false, List, [], ◌∷◌, ◌++◌, refl, sym, ap, subst, arith, eqb-true}
+use Rattle.std.proofs.Common.{◌≡◌, ◌≢◌, ◌∙◌, ℕ, ◌+◌, ◌-◌, Bool, true, false, [], ◌∷◌, ◌++◌, refl, sym, ap, subst, arith, eqb-true}
 use Rattle.devices.specs.Journal.{Place}
 use Rattle.devices.specs.declared.event.Event.TheVariants as the
 use Rattle.fram_ram.specs.Memories.{put}
 use Rattle.region_split.specs.declared.class.DmaClass.{DmaClass}
 use Rattle.region_split.specs.declared.class.DmaClass.TheVariants as class
 use Rattle.task_ast.specs.declared.core_form.Core.{Core}
-use Rattle.task_ast.specs.declared.core_form.Site.{Site}
 use Rattle.task_ast.specs.declared.core_form.Site.TheVariants as site
 use Rattle.task_ast.specs.WellFormed.{IsWellFormed}
 use Rattle.walk_run.specs.declared.place.Place as walked
-use Rattle.word_isa.specs.declared.parts.Scheme.{Scheme}
 use Rattle.word_machine.specs.State.{Program}
 use Rattle.word_machine.specs.Straight.{Spot}
 use Rattle.word_machine.specs.Traces as trace
 use Rattle.run_plan.specs.declared.act.Act.TheVariants as act
-use Rattle.run_plan.specs.Cells.{CellWrite, CopyValued, State, after_write, puts_class, puts_flag, puts_from, puts_length, puts_to}
+use Rattle.run_plan.specs.Cells.{CopyValued, State, after_write, puts_class, puts_flag, puts_from, puts_length, puts_to}
 use Rattle.run_plan.specs.Deeds.{by_class, class_now, class_valued, seal_done, sealed}
 use Rattle.run_plan.specs.Small.{Doing, core_of, does, flag_holds, have, same}
 use Rattle.run_plan.specs.Weights.{seal_weight}
@@ -30,7 +28,7 @@ use Rattle.act_laws.specs.Codes.{Acts, End, Fixed, top}
 use Rattle.act_laws.specs.Templates.{ByClassDoes, SealCopyDoes}
 use Rattle.act_laws.specs.Words.{class_in}
 use Rattle.cell_laws.specs.Standing.{HasCopy, HasRecord, IsSite, RecordStands, address_in, class_word, worked}
-use Rattle.cell_laws.proofs.Puts.{above, got, hit}
+use Rattle.cell_laws.proofs.Seals.{class_put, copy_whole, from_put, length_put, some_is, to_put, with_class, with_from, with_length, with_to}
 use Rattle.ram_laws.specs.Ram.{HasValued}
 use Rattle.act_refines.specs.Between.{AreRelated, MemoryStands, fixed_in}
 use Rattle.act_refines.specs.Does.{DoesAct, Ends, IsAsKept, IsFree, frame_of, way_at, way_to}
@@ -39,62 +37,16 @@ use Rattle.act_refines.proofs.Going.{goes_on, related_at}
 use Rattle.act_refines.proofs.Records.{at_site}
 use Rattle.act_refines.proofs.Simple.{WritesKeep}
 
-some_is : {A B : Type 0} (f : A → B) (x y : A) → Some x ≡ Some y → f x ≡ f y
-some_is f x y same = cc same
-
 -- ---- the record of a copy
 
-module _ (c : Core) (scheme : Scheme) (m : ℕ → ℕ) (s : State) (k : ℕ) (v : CopyValued) where
-  abbrev address : walked.Place → ℕ
-  address = address_in c (worked scheme s.bank)
-
-  abbrev with_class : State
-  with_class = after_write c.arrays (puts_class k v.class) s
-
-  abbrev with_to : State
-  with_to = after_write c.arrays (puts_to k v.to) with_class
-
-  abbrev with_from : State
-  with_from = after_write c.arrays (puts_from k v.from) with_to
-
-  abbrev with_length : State
-  with_length = after_write c.arrays (puts_length k v.length) with_from
-
-  abbrev class_put : ℕ → ℕ
-  class_put = put m (value_at k) (class_word v.class)
-
-  abbrev to_put : ℕ → ℕ
-  to_put = put class_put (ends_at k) (address v.to)
-
-  abbrev from_put : ℕ → ℕ
-  from_put = put to_put (ends_at k + 1) (address v.from)
-
-  abbrev length_put : ℕ → ℕ
-  length_put = put from_put (ends_at k + 2) v.length
-
-  copy_whole : k ≤ 128 → 1 ≤ k → HasCopy address length_put with_length.cells k
-  copy_whole few from = record {
-    class = λ d same.
-        above from_put (ends_at k + 2) v.length (value_at k) (omega (arith, few, from)) ∙ above to_put (ends_at k + 1) (address v.from) (value_at k) (omega (arith, few, from))
-        ∙ above class_put (ends_at k) (address v.to) (value_at k) (omega (arith, few, from)) ∙ hit m (value_at k) (class_word v.class)
-        ∙ some_is class_word v.class d (sym (got k (Some v.class) s.cells.class) ∙ same);
-    to = λ at same.
-        above from_put (ends_at k + 2) v.length (ends_at k) (omega arith) ∙ above to_put (ends_at k + 1) (address v.from) (ends_at k) (omega arith) ∙ hit class_put (ends_at k) (address v.to)
-        ∙ some_is address v.to at (sym (got k (Some v.to) s.cells.to) ∙ same);
-    from = λ at same.
-        above from_put (ends_at k + 2) v.length (ends_at k + 1) (omega arith) ∙ hit to_put (ends_at k + 1) (address v.from)
-        ∙ some_is address v.from at (sym (got k (Some v.from) s.cells.from) ∙ same);
-    length = hit from_put (ends_at k + 2) v.length ∙ sym (got k v.length s.cells.length);
-  }
-
-  -- what its seal leaves, by the words of the copy's cells
-  abbrev copy_end : (next : ℕ) → (issued : ℕ → ℕ) → (class_at to_at from_at length_at : ℕ) → End
-  copy_end next issued class_at to_at from_at length_at = record {
-    pc = next;
-    issued = issued;
-    store = put (put (put (put (put m (value_at k) class_at) (ends_at k) to_at) (ends_at k + 1) from_at) (ends_at k + 2) length_at) (flag_at k) s.epoch;
-    atoms = trace.wrote (value_at k) class_at ∷ trace.wrote (ends_at k) to_at ∷ trace.wrote (ends_at k + 1) from_at ∷ trace.wrote (ends_at k + 2) length_at ∷ trace.wrote (flag_at k) s.epoch ∷ trace.showed (the.Sealed k) ∷ [];
-  }
+-- what its seal leaves, by the words of the copy's cells
+abbrev copy_end : (m : ℕ → ℕ) → (s : State) → (k next : ℕ) → (issued : ℕ → ℕ) → (class_at to_at from_at length_at : ℕ) → End
+copy_end m s k next issued class_at to_at from_at length_at = record {
+  pc = next;
+  issued = issued;
+  store = put (put (put (put (put m (value_at k) class_at) (ends_at k) to_at) (ends_at k + 1) from_at) (ends_at k + 2) length_at) (flag_at k) s.epoch;
+  atoms = trace.wrote (value_at k) class_at ∷ trace.wrote (ends_at k) to_at ∷ trace.wrote (ends_at k + 1) from_at ∷ trace.wrote (ends_at k + 2) length_at ∷ trace.wrote (flag_at k) s.epoch ∷ trace.showed (the.Sealed k) ∷ [];
+}
 
 copy_memory : WritesKeep → (p : Program) (d : Doing) (m : Spot) (s : State) (k : ℕ) (v : CopyValued) (most : ℕ) → IsWellFormed (core_of d) → MemoryStands p d true m.store m.issued s → IsSite k → s.cells.flag k ≢ s.epoch
     → slice_get d.setting.task.sites (k - 1) ≡ Some (site.Copy most)
@@ -128,7 +80,7 @@ seal_copy_does template keep p place_of d number keeps k most here is next m s w
         let c : Core = core_of d in
         let x : Fixed = fixed_in d.scheme s in
         let h : HasValued c (worked d.scheme s.bank) m.store v = related.memory.ram.frame.copy v one in
-        let e : (a b f n : ℕ) → End = copy_end c d.scheme m.store s k v next m.issued in
+        let e : (a b f n : ℕ) → End = copy_end m.store s k next m.issued in
         let acts : Acts p x 10 (top x m) (e (class_word v.class) (address_in c (worked d.scheme s.bank) v.to) (address_in c (worked d.scheme s.bank) v.from) v.length) =
         subst (λ w. Acts p x 10 (top x m) (e w (address_in c (worked d.scheme s.bank) v.to) (address_in c (worked d.scheme s.bank) v.from) v.length)) h.class
         (subst (λ w. Acts p x 10 (top x m) (e (m.store 1048621) w (address_in c (worked d.scheme s.bank) v.from) v.length)) h.to.address

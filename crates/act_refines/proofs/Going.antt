@@ -1,5 +1,5 @@
 -- From what a template does to what its act does.
-use Rattle.std.proofs.Common.{◌≡◌, ◌∙◌, ℕ, ◌≤◌, Bool, List, [], refl, sym, ap, subst, arith}
+use Rattle.std.proofs.Common.{◌≡◌, ◌∙◌, ℕ, ◌≤◌, Bool, List, [], sym, ap, subst, arith}
 use Rattle.devices.specs.Journal.{Place}
 use Rattle.word_machine.specs.State.{Program}
 use Rattle.word_machine.specs.Straight.{Spot}

@@ -1,6 +1,6 @@
 -- Memory stands for a state on and on: behind a write of the plan, and behind what is noted.
-use Rattle.std.specs.Prelude.{◌==◌, ◌⊎◌, cond, Option, Some, None}
-use Rattle.std.proofs.Common.{◌≡◌, ◌≢◌, ◌∙◌, ℕ, ◌+◌, ◌^◌, ◌<◌, ◌≤◌, Bool, true, false, List, length, length-set, refl, sym, ap, subst, arith, eqb-true, eq-eqb}
+use Rattle.std.specs.Prelude.{◌==◌, cond, Some, None}
+use Rattle.std.proofs.Common.{◌≡◌, ◌≢◌, ◌∙◌, ℕ, ◌^◌, ◌<◌, ◌≤◌, Bool, true, false, List, length, length-set, refl, sym, ap, subst, arith, eqb-true, eq-eqb}
 use Rattle.fram_ram.specs.Memories.{put}
 use Rattle.task_attempts.specs.Changes as changes
 use Rattle.task_ast.specs.declared.core_form.Core.{Core}
@@ -17,7 +17,7 @@ use Rattle.act_laws.specs.Values.{with_arguments}
 use Rattle.line_laws.specs.Gives.{is_temp}
 use Rattle.line_laws.specs.Relation.{Related, base_at, room_at}
 use Rattle.layout_laws.specs.Layouts.{layout_of}
-use Rattle.cell_laws.specs.Standing.{Fits, HasHomes, HaveHomes, IsSite, Stands, address_in, address_of, word_of, worked}
+use Rattle.cell_laws.specs.Standing.{Fits, HasHomes, IsSite, Stands, address_in, address_of, word_of, worked}
 use Rattle.ram_laws.specs.Ram.{AreWhole, HasBases, HasConstants, HasRam, IsPlaceOf, RamStands}
 use Rattle.ram_laws.proofs.Calling.{frame_aimless, fram_stays}
 use Rattle.cell_laws.proofs.Puts.{miss}

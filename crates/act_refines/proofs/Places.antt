@@ -1,7 +1,6 @@
 -- The words that saving and restoring copy are those of the plan's places, in their order.
-use Rattle.std.specs.Prelude.{sum_by, flat_map, slice_get, slice_index_or}
-use Rattle.std.specs.List.{AllByRecursion}
-use Rattle.std.proofs.Common.{◌≡◌, ◌∙◌, ℕ, zero, suc, ◌+◌, ◌*◌, ◌<◌, ◌≤◌, true, List, [], ◌∷◌, ◌++◌, length, length-append, refl, sym, ap, subst, arith, eqb-true}
+use Rattle.std.specs.Prelude.{sum_by, slice_get}
+use Rattle.std.proofs.Common.{◌≡◌, ◌∙◌, ℕ, zero, suc, ◌+◌, ◌*◌, ◌≤◌, true, List, [], ◌∷◌, ◌++◌, length, length-append, refl, ap, arith, eqb-true}
 use Rattle.std.proofs.lemmas.List.Sums.{sum_by-cons}
 use Rattle.task_ast.specs.declared.tree.Kind.{Kind}
 use Rattle.task_ast.specs.declared.tree.Kind.TheVariants.{Nv, Const, Vol}
@@ -13,7 +12,6 @@ use Rattle.walk_run.specs.declared.place.Place.{Place}
 use Rattle.walk_run.specs.Store.{place}
 use Rattle.line_code.specs.declared.areas.Free.{Free}
 use Rattle.line_code.specs.Areas.{area_at, area_of, areas_from, free_at_first, free_of, total}
-use Rattle.line_code.specs.Lines.{bares}
 use Rattle.run_plan.specs.Words.{places_from, places_of}
 use Rattle.line_laws.specs.Relation.{base_at, base_word, from_at}
 use Rattle.word_code.specs.Beginnings.{AreLow}

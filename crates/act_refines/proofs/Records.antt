@@ -1,7 +1,7 @@
 -- The records of sites: a call's and a block's are sealed, and a call's is taken.
-use Rattle.std.specs.Prelude.{◌==◌, Option, Some, None, slice_get}
-use Rattle.std.proofs.Common.{◌≡◌, ◌≢◌, ◌∙◌, ℕ, zero, suc, ◌+◌, ◌-◌, ◌^◌, ◌<◌, ◌≤◌, Bool, true, false, List, [], ◌∷◌, ◌++◌, refl, sym, ap, subst, arith}
-use Rattle.devices.specs.Journal.{Place, keeps, seals}
+use Rattle.std.specs.Prelude.{Option, Some, None, slice_get}
+use Rattle.std.proofs.Common.{◌≡◌, ◌≢◌, ◌∙◌, ℕ, zero, suc, ◌+◌, ◌-◌, ◌^◌, ◌<◌, Bool, true, List, [], ◌∷◌, ◌++◌, refl, sym, ap, subst, arith}
+use Rattle.devices.specs.Journal.{Place, keeps}
 use Rattle.fram_ram.specs.Memories.{put}
 use Rattle.task_ast.specs.declared.tree.Ann.{Ann}
 use Rattle.task_ast.specs.declared.core_form.Site.{Site}
@@ -13,20 +13,20 @@ use Rattle.word_machine.specs.Straight.{Spot}
 use Rattle.word_machine.specs.Traces as trace
 use Rattle.devices.specs.declared.event.Event.TheVariants as the
 use Rattle.run_plan.specs.declared.act.Act.TheVariants as act
-use Rattle.run_plan.specs.Cells.{CellWrite, CopyValued, State, after_write, puts_class, puts_flag, puts_from, puts_length, puts_stamp, puts_to, puts_value}
+use Rattle.run_plan.specs.Cells.{State, after_write, puts_flag, puts_stamp, puts_value}
 use Rattle.run_plan.specs.Deeds.{seal_done, sealed}
-use Rattle.run_plan.specs.Small.{Doing, Done, Way, core_of, have, stuck}
+use Rattle.run_plan.specs.Small.{Doing, Way, core_of, have}
 use Rattle.run_plan.specs.Weights.{seal_weight}
 use Rattle.line_laws.specs.Standing.{Lie}
 use Rattle.word_code.specs.Acts.{jump, seal_code}
 use Rattle.word_code.specs.Frames as frames
-use Rattle.word_code.specs.Frames.{Frame, begun_at, ends_at, flag_at, stamp_at, value_at}
+use Rattle.word_code.specs.Frames.{Frame, begun_at, flag_at, stamp_at, value_at}
 use Rattle.act_laws.specs.Codes.{Acts, End, Fixed, top}
-use Rattle.act_laws.specs.Templates.{SealBlockDoes, SealCallDoes, SealCopyDoes, TakeDoes}
-use Rattle.cell_laws.specs.Standing.{HasRecord, IsLoose, IsSite, RecordStands, address_in, class_word, worked}
-use Rattle.cell_laws.proofs.Puts.{above, below, got, hit}
+use Rattle.act_laws.specs.Templates.{SealBlockDoes, SealCallDoes, TakeDoes}
+use Rattle.cell_laws.specs.Standing.{HasRecord, IsSite, RecordStands, address_in, worked}
+use Rattle.cell_laws.proofs.Puts.{below, got, hit}
 use Rattle.ram_laws.specs.Notes.{notes_word}
-use Rattle.ram_laws.specs.Ram.{HasValued, HasWord}
+use Rattle.ram_laws.specs.Ram.{HasWord}
 use Rattle.act_refines.specs.Between.{AreRelated, MemoryStands, fixed_in, with_rest}
 use Rattle.act_refines.specs.Does.{DoesAct, Ends, Holds, IsFree, frame_of, way_at}
 use Rattle.act_refines.specs.Seen.{tells}

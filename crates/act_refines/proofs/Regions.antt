@@ -16,22 +16,21 @@ use Rattle.word_machine.specs.Straight.{Spot}
 use Rattle.line_code.specs.declared.line.Line.{Line}
 use Rattle.line_code.specs.Lines.{bares}
 use Rattle.line_code.specs.Areas.{areas_from, free_at_first}
-use Rattle.run_plan.specs.declared.act.Act.{Act}
 use Rattle.run_plan.specs.declared.act.Act.TheVariants as act
-use Rattle.run_plan.specs.Cells.{CellWrite, State, after_write, aside_at, puts_aside, puts_home, with_words}
+use Rattle.run_plan.specs.Cells.{State, after_write, aside_at, puts_aside, puts_home, with_words}
 use Rattle.run_plan.specs.Small.{Atom, Doing, core_of, lock_holds, silent, silently}
-use Rattle.run_plan.specs.Words.{first_places, places_of, restore_writes, save_writes}
+use Rattle.run_plan.specs.Words.{first_places, restore_writes, save_writes}
 use Rattle.run_plan.specs.Weights.{region_words}
 use Rattle.line_laws.specs.Standing.{Lie, lie_front}
 use Rattle.word_code.specs.Acts.{jump}
 use Rattle.word_code.specs.Beginnings.{first_of, homes_code, restore_code}
 use Rattle.word_code.specs.Frames.{Frame, lock_at}
 use Rattle.act_laws.specs.Blocks.{Copy, array_copies, copies, list_atoms, list_code, list_makes}
-use Rattle.act_laws.specs.Codes.{Acts, End, Fixed, FramCell, HasFixed, top}
+use Rattle.act_laws.specs.Codes.{Acts, Fixed, FramCell, HasFixed, top}
 use Rattle.act_laws.specs.CodeLaws.{fram_cell, when_acts}
 use Rattle.act_laws.specs.Templates.{RestoreDoes, SaveDoes}
 use Rattle.cell_laws.specs.Standing.{IsHome, address_in, beside, worked}
-use Rattle.act_refines.specs.Between.{AreRelated, IsTidy, MemoryStands, fixed_in}
+use Rattle.act_refines.specs.Between.{MemoryStands, fixed_in}
 use Rattle.act_refines.specs.Does.{AreHomes, DoesAct, Ends, Nothing, frame_of}
 use Rattle.act_refines.specs.Seen.{Seen, behind, puts, steps_seen, trace_seen}
 use Rattle.act_refines.proofs.Going.{goes_on, related_at}

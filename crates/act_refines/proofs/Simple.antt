@@ -1,6 +1,6 @@
 -- Acts that write one cell, or note one word.
-use Rattle.std.specs.Prelude.{◌==◌, drop, Option, Some, None, slice_get}
-use Rattle.std.proofs.Common.{◌≡◌, ◌≢◌, ◌∙◌, ℕ, zero, suc, ◌+◌, ◌-◌, ◌%◌, ◌^◌, ◌<◌, ◌≤◌, Bool, true, false, List, [], ◌∷◌, refl, sym, ap, subst, arith}
+use Rattle.std.specs.Prelude.{drop, Some}
+use Rattle.std.proofs.Common.{◌∙◌, ℕ, ◌^◌, ◌<◌, ◌≤◌, Bool, true, List, [], ◌∷◌, refl, sym, ap, subst, arith}
 use Rattle.devices.specs.Journal.{Place, looks}
 use Rattle.fram_ram.specs.Memories.{put}
 use Rattle.task_ast.specs.WellFormed.{IsWellFormed}
@@ -13,10 +13,8 @@ use Rattle.run_plan.specs.Small.{Doing, core_of}
 use Rattle.word_code.specs.Frames.{Frame, flag_at, lock_at}
 use Rattle.act_laws.specs.Codes.{Fixed}
 use Rattle.act_laws.specs.Templates.{DropDoes, LockDoes, LookDoes}
-use Rattle.cell_laws.specs.Standing.{Fits, IsSite, address_of, word_of, worked}
-use Rattle.cell_laws.proofs.Puts.{miss}
+use Rattle.cell_laws.specs.Standing.{Fits, IsSite, address_of, word_of}
 use Rattle.ram_laws.specs.Notes.{Note, NoteFits, after_note, cell_of, noted_word, notes_time}
-use Rattle.ram_laws.specs.Ram.{HasRam}
 use Rattle.act_refines.specs.Between.{HasReadings, MemoryStands, WordFits, fixed_in, with_rest}
 use Rattle.act_refines.specs.Does.{DoesAct, IsDue, Nothing, frame_of}
 use Rattle.act_refines.specs.Seen.{tells}

@@ -1,7 +1,7 @@
 -- Statements without sites: what their writes show, and what memory is behind them.
-use Rattle.std.specs.Prelude.{◌==◌, ◌&&◌, map, nat_le, nat_lt, slice_get, if◌then◌else◌}
+use Rattle.std.specs.Prelude.{map, slice_get, if◌then◌else◌}
 use Rattle.std.specs.List.{AllByRecursion}
-use Rattle.std.proofs.Common.{◌≡◌, ◌≢◌, ◌∙◌, ℕ, zero, suc, ◌+◌, ◌^◌, ◌<◌, ◌≤◌, Bool, true, false, List, [], ◌∷◌, ◌++◌, length, length-set, refl, sym, ap, subst, arith, eqb-true, eq-eqb}
+use Rattle.std.proofs.Common.{◌≡◌, ◌∙◌, ℕ, zero, suc, ◌+◌, ◌<◌, ◌≤◌, Bool, true, false, List, [], ◌∷◌, ◌++◌, length, length-set, refl, sym, ap, subst, arith, eqb-true, eq-eqb}
 use Rattle.std.proofs.lemmas.Bool.Decides.{nat_tests}
 use Rattle.devices.specs.Journal as journal
 use Rattle.fram_ram.specs.Memories.{is_fram, put}
@@ -17,8 +17,7 @@ use Rattle.walk_run.specs.declared.place.Place.{Place}
 use Rattle.walk_run.specs.Plain.{Ran, done, trapped, plain_done, store_left}
 use Rattle.walk_run.specs.PlainSteps.{plain_steps}
 use Rattle.walk_run.specs.PlainWrites.{Write, after_writes, plain_writes, points, sets}
-use Rattle.walk_run.specs.Store.{Store, first_if_shown, word_at, words_of}
-use Rattle.walk_run.specs.Trap.{code_of}
+use Rattle.walk_run.specs.Store.{Store, first_if_shown, words_of}
 use Rattle.walk_run.specs.WriteLaws.{plain_gives}
 use Rattle.word_isa.specs.declared.parts.Scheme.{Scheme}
 use Rattle.word_machine.specs.State.{Program}
@@ -31,13 +30,13 @@ use Rattle.line_code.specs.declared.areas.Free.{Free}
 use Rattle.line_code.specs.Areas.{area_at, area_of, areas_from, free_at_first, free_of}
 use Rattle.line_code.specs.Statements.{statement_code}
 use Rattle.run_plan.specs.declared.act.Act.TheVariants as act
-use Rattle.run_plan.specs.Cells.{CellWrite, State, after_write, puts_home}
+use Rattle.run_plan.specs.Cells.{State, after_write, puts_home}
 use Rattle.run_plan.specs.Deeds.{plain_ends}
 use Rattle.run_plan.specs.Small.{Doing, core_of, silent, with_volatile}
 use Rattle.run_plan.specs.Words.{home_writes, kind_at, kind_or_volatile}
 use Rattle.line_laws.specs.Gives.{Gives, IsKept}
 use Rattle.line_laws.specs.Goals.{HasStore, atoms_of, is_frame, run_goal}
-use Rattle.line_laws.specs.Relation.{IsApart, Layout, Related, base_at, place_address, room_at}
+use Rattle.line_laws.specs.Relation.{IsApart, Layout, base_at, place_address}
 use Rattle.line_laws.specs.Standing.{Lie}
 use Rattle.line_laws.specs.Suits.{Suits}
 use Rattle.word_code.specs.Acts.{jump}
@@ -47,12 +46,10 @@ use Rattle.act_laws.proofs.Counted.{counted, issued_traced}
 use Rattle.layout_laws.specs.Layouts.{IsInArea, LieInAreas, layout_of}
 use Rattle.cell_laws.specs.Standing.{IsHome, address_in, worked}
 use Rattle.cell_laws.proofs.Writes.{home_in, worked_low}
-use Rattle.ram_laws.specs.Ram.{HasConstants, IsPlaceOf}
 use Rattle.ram_laws.proofs.Relating.{IsBase, base_in, of_constants, of_homes, of_volatile}
-use Rattle.ram_laws.proofs.Stays.{frame_stays, volatile_in}
-use Rattle.cell_laws.specs.Standing.{Stands}
+use Rattle.ram_laws.proofs.Stays.{frame_stays}
 use Rattle.act_refines.specs.Between.{AreRelated, MemoryStands, fixed_in}
-use Rattle.act_refines.specs.Does.{DoesAct, Ends, IsGoodWrite, IsWritable, StatementFits, frame_of}
+use Rattle.act_refines.specs.Does.{DoesAct, Ends, IsGoodWrite, IsWritable, StatementFits}
 use Rattle.act_refines.specs.Seen.{Seen, behind, puts, steps_seen, trace_seen}
 use Rattle.act_refines.proofs.Calls.{IsRelatedThere}
 use Rattle.act_refines.proofs.Simple.{WritesKeep}

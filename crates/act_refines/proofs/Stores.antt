@@ -1,12 +1,11 @@
 -- Memory that is related to a store stands for the plan's state with that store.
-use Rattle.std.specs.Prelude.{map, slice_index, slice_index_or}
-use Rattle.std.specs.List.{AllByRecursion}
-use Rattle.std.proofs.Common.{◌≡◌, ◌≢◌, ◌∙◌, ℕ, zero, suc, ◌+◌, ◌<◌, ◌≤◌, Bool, true, false, List, [], ◌∷◌, ◌++◌, length, length-set, refl, sym, ap, subst, arith, eqb-true}
+use Rattle.std.specs.Prelude.{slice_index, slice_index_or}
+use Rattle.std.proofs.Common.{◌≡◌, ◌≢◌, ◌∙◌, ℕ, zero, suc, true, false, List, [], ◌∷◌, length, refl, sym, ap, subst, arith, eqb-true}
 use Rattle.task_ast.specs.declared.tree.Kind.{Kind}
 use Rattle.task_ast.specs.declared.tree.Kind.TheVariants.{Nv, Const, Vol}
 use Rattle.task_ast.specs.declared.core_form.Array.{Array}
 use Rattle.task_ast.specs.declared.core_form.Core.{Core}
-use Rattle.walk_run.specs.Store.{Store, word_at, words_of}
+use Rattle.walk_run.specs.Store.{Store, words_of}
 use Rattle.word_machine.specs.State.{Program}
 use Rattle.word_machine.specs.Straight.{Spot}
 use Rattle.line_code.specs.declared.areas.Free.{Free}
@@ -15,7 +14,7 @@ use Rattle.run_plan.specs.Cells.{Frame, State, joined, of_home}
 use Rattle.run_plan.specs.Small.{Doing, core_of, with_volatile}
 use Rattle.line_laws.specs.Relation.{Related, base_at}
 use Rattle.layout_laws.specs.Layouts.{layout_of}
-use Rattle.cell_laws.specs.Standing.{IsHome, worked}
+use Rattle.cell_laws.specs.Standing.{worked}
 use Rattle.ram_laws.specs.Ram.{HasArrays, HasFrame, HasPointers, HasRam}
 use Rattle.ram_laws.proofs.Relating.{arrays_of, pointers_of}
 use Rattle.ram_laws.proofs.Stays.{arrays_stay}

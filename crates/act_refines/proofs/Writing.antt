@@ -1,5 +1,5 @@
 -- A word goes to a call's target: to a home, which is seen, or to a volatile word.
-use Rattle.std.specs.Prelude.{◌==◌, ◌&&◌, ◌||◌, map, nat_le, nat_lt, Option, Some, None, if◌then◌else◌}
+use Rattle.std.specs.Prelude.{map, Option, Some, None, if◌then◌else◌}
 use Rattle.std.proofs.Common.{◌≡◌, ◌≢◌, ◌∙◌, ℕ, ◌+◌, ◌%◌, ◌^◌, ◌<◌, ◌≤◌, Bool, true, false, List, [], ◌∷◌, ◌++◌, length, length-set, append-nil, refl, sym, ap, subst, arith}
 use Rattle.std.proofs.lemmas.Bool.Decides.{nat_tests}
 use Rattle.devices.specs.Journal as journal
@@ -12,7 +12,7 @@ use Rattle.task_ast.specs.declared.core_form.CoreTarget.{CoreTarget}
 use Rattle.task_ast.specs.WellFormed.{IsWellFormed}
 use Rattle.walk_run.specs.declared.place.Place.{Place}
 use Rattle.walk_run.specs.PlainWrites.{Write, sets}
-use Rattle.walk_run.specs.Store.{Store, put_word}
+use Rattle.walk_run.specs.Store.{put_word}
 use Rattle.word_machine.specs.State.{Program}
 use Rattle.word_machine.specs.Straight.{Spot}
 use Rattle.word_machine.specs.Traces as trace
@@ -20,9 +20,9 @@ use Rattle.word_machine.specs.Traces.{applied, noted}
 use Rattle.run_plan.specs.declared.act.Act.TheVariants as act
 use Rattle.run_plan.specs.Cells.{State}
 use Rattle.run_plan.specs.Deeds.{words_put, write_done}
-use Rattle.run_plan.specs.Small.{Doing, Done, ahead, core_of, does, have, same, silent, with_volatile}
+use Rattle.run_plan.specs.Small.{Doing, core_of, have, silent, with_volatile}
 use Rattle.run_plan.specs.Words.{home_writes}
-use Rattle.line_laws.specs.Relation.{Layout, Related, is_cell}
+use Rattle.line_laws.specs.Relation.{Related, is_cell}
 use Rattle.line_laws.specs.Standing.{Lie}
 use Rattle.line_laws.proofs.After.{related_after}
 use Rattle.word_code.specs.Acts.{jump, write_code}
@@ -36,7 +36,7 @@ use Rattle.cell_laws.proofs.Writes.{worked_low}
 use Rattle.ram_laws.specs.Ram.{HasTarget, HasWord}
 use Rattle.ram_laws.proofs.Stays.{frame_stays}
 use Rattle.act_refines.specs.Between.{AreRelated, MemoryStands, fixed_in}
-use Rattle.act_refines.specs.Does.{DoesAct, Ends, HasAim, IsGoodWrite, frame_of, is_aimed}
+use Rattle.act_refines.specs.Does.{DoesAct, Ends, HasAim, IsGoodWrite, frame_of}
 use Rattle.act_refines.specs.Seen.{behind, trace_seen}
 use Rattle.act_refines.proofs.Calls.{IsRelatedThere}
 use Rattle.act_refines.proofs.Going.{goes_on, related_at}

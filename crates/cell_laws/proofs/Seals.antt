@@ -20,7 +20,7 @@ use Rattle.cell_laws.proofs.Puts.{above, below, got, hit}
 use Rattle.cell_laws.proofs.Writes.{write_stands}
 
 -- what is put in a place is what was put there
-some_is : {A B : Type 0} (f : A → B) (x y : A) → Some x ≡ Some y → f x ≡ f y
+pub some_is : {A B : Type 0} (f : A → B) (x y : A) → Some x ≡ Some y → f x ≡ f y
 some_is f x y same = cc same
 
 module _ (areas : (c : Core) (bank : ℕ) → IsWellFormed c → bank ≤ 2048 → LieInAreas (layout_of c bank)) (clear : (c : Core) (bank : ℕ) → IsWellFormed c → bank ≤ 2048 → IsApart (layout_of c bank)) where
@@ -50,34 +50,34 @@ module _ (areas : (c : Core) (bank : ℕ) → IsWellFormed c → bank ≤ 2048 �
 -- ---- copies
 
 module _ (c : Core) (scheme : Scheme) (m : ℕ → ℕ) (s : State) (k : ℕ) (v : CopyValued) where
-  abbrev address : Place → ℕ
+  abbrev pub address : Place → ℕ
   address = address_in c (worked scheme s.bank)
 
-  abbrev with_class : State
+  abbrev pub with_class : State
   with_class = after_write c.arrays (puts_class k v.class) s
 
-  abbrev with_to : State
+  abbrev pub with_to : State
   with_to = after_write c.arrays (puts_to k v.to) with_class
 
-  abbrev with_from : State
+  abbrev pub with_from : State
   with_from = after_write c.arrays (puts_from k v.from) with_to
 
-  abbrev with_length : State
+  abbrev pub with_length : State
   with_length = after_write c.arrays (puts_length k v.length) with_from
 
-  abbrev class_put : ℕ → ℕ
+  abbrev pub class_put : ℕ → ℕ
   class_put = put m (value_at k) (class_word v.class)
 
-  abbrev to_put : ℕ → ℕ
+  abbrev pub to_put : ℕ → ℕ
   to_put = put class_put (ends_at k) (address v.to)
 
-  abbrev from_put : ℕ → ℕ
+  abbrev pub from_put : ℕ → ℕ
   from_put = put to_put (ends_at k + 1) (address v.from)
 
-  abbrev length_put : ℕ → ℕ
+  abbrev pub length_put : ℕ → ℕ
   length_put = put from_put (ends_at k + 2) v.length
 
-  copy_whole : k ≤ 128 → 1 ≤ k → HasCopy address length_put with_length.cells k
+  pub copy_whole : k ≤ 128 → 1 ≤ k → HasCopy address length_put with_length.cells k
   copy_whole few from = record {
     class = λ d same.
         above from_put (ends_at k + 2) v.length (value_at k) (omega (arith, few, from)) ∙ above to_put (ends_at k + 1) (address v.from) (value_at k) (omega (arith, few, from))

@@ -1,5 +1,5 @@
 -- What outlives a power failure, as it stands for a state of the plan, and how far a run has come (docs/CODE.md, "Cuts").
-use Rattle.std.specs.Prelude.{List, [], ◌∷◌, ◌≡◌, ℕ, ◌+◌, ◌≤◌, ◌⊎◌, drop, length, Some, None}
+use Rattle.std.specs.Prelude.{List, [], ◌∷◌, ◌≡◌, ℕ, ◌+◌, ◌≤◌, ◌⊎◌, drop, false, length, Some, None}
 use Rattle.devices.specs.Journal.{JournalEvent, begins, looks, keeps, drops, issues, seals, copies, commits, traps}
 use Rattle.task_ast.specs.declared.core_form.Core.{Core}
 use Rattle.task_ast.specs.declared.core_form.CoreTask.{CoreTask}

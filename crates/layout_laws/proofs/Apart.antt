@@ -15,25 +15,25 @@ use Rattle.line_laws.specs.Relation.{IsApart, base_at, base_word, is_cell, offse
 use Rattle.layout_laws.specs.Layouts.{HasOwnPlaces, IsInArea, IsOwn, LieInAreas, area_from, layout_of}
 
 -- a number where two kinds are the same, and else 0
-abbrev where_same : Kind → Kind → ℕ → ℕ
+abbrev pub where_same : Kind → Kind → ℕ → ℕ
 where_same Nv Nv n = n
 where_same Const Const n = n
 where_same Vol Vol n = n
 where_same _ _ n = 0
 
 -- the words of a kind that the arrays before one have
-abbrev before : List Array → Kind → ℕ → ℕ
+abbrev pub before : List Array → Kind → ℕ → ℕ
 before [] kind n = 0
 before (a ∷ arrays) kind zero = 0
 before (a ∷ arrays) kind (suc n) = where_same a.kind kind (length a.first) + before arrays kind n
 
 -- the words of a kind
-abbrev total : List Array → Kind → ℕ
+abbrev pub total : List Array → Kind → ℕ
 total [] kind = 0
 total (a ∷ arrays) kind = where_same a.kind kind (length a.first) + total arrays kind
 
 -- an array's kind and its number of words; there are none behind the last array
-abbrev kind_of : List Array → ℕ → Kind
+abbrev pub kind_of : List Array → ℕ → Kind
 kind_of [] n = Const
 kind_of (a ∷ arrays) zero = a.kind
 kind_of (a ∷ arrays) (suc n) = kind_of arrays n
@@ -44,13 +44,13 @@ room_of (a ∷ arrays) zero = length a.first
 room_of (a ∷ arrays) (suc n) = room_of arrays n
 
 -- what is free of a kind
-abbrev start : Free → Kind → ℕ
+abbrev pub start : Free → Kind → ℕ
 start f Nv = f.nv
 start f Const = f.constant
 start f Vol = f.volatile
 
 -- the word that a kind's addresses count from
-abbrev from_of : (bank : ℕ) → Kind → ℕ
+abbrev pub from_of : (bank : ℕ) → Kind → ℕ
 from_of bank Nv = bank
 from_of bank Const = 0
 from_of bank Vol = 1048576
@@ -62,7 +62,7 @@ from_here bank f Nv n = refl
 from_here bank f Const n = refl
 from_here bank f Vol n = refl
 
-from_is : (bank : ℕ) (f : Free) (arrays : List Array) (n : ℕ) → base_word bank (area_at (areas_from f arrays) n).base ≡ from_of bank (kind_of arrays n)
+pub from_is : (bank : ℕ) (f : Free) (arrays : List Array) (n : ℕ) → base_word bank (area_at (areas_from f arrays) n).base ≡ from_of bank (kind_of arrays n)
 from_is bank f [] zero = refl
 from_is bank f [] (suc n) = refl
 from_is bank f (a ∷ arrays) zero = from_here bank f a.kind (length a.first)
@@ -95,7 +95,7 @@ start_behind f Vol Nv n = omega arith
 start_behind f Vol Const n = omega arith
 start_behind f Vol Vol n = refl
 
-offset_is : (f : Free) (arrays : List Array) (n : ℕ) → 0 < room_of arrays n → (area_at (areas_from f arrays) n).offset ≡ start f (kind_of arrays n) + before arrays (kind_of arrays n) n
+pub offset_is : (f : Free) (arrays : List Array) (n : ℕ) → 0 < room_of arrays n → (area_at (areas_from f arrays) n).offset ≡ start f (kind_of arrays n) + before arrays (kind_of arrays n) n
 offset_is f [] n some = omega (arith, some)
 offset_is f (a ∷ arrays) zero some = omega (arith, offset_here f a.kind (length a.first))
 offset_is f (a ∷ arrays) (suc n) some =
@@ -103,13 +103,13 @@ offset_is f (a ∷ arrays) (suc n) some =
 
 -- ---- in its kind's words
 
-same_there : (k : Kind) (n : ℕ) → where_same k k n ≡ n
+pub same_there : (k : Kind) (n : ℕ) → where_same k k n ≡ n
 same_there Nv n = refl
 same_there Const n = refl
 same_there Vol n = refl
 
 -- an array lies within the words of its kind
-within : (arrays : List Array) (n : ℕ) → before arrays (kind_of arrays n) n + room_of arrays n ≤ total arrays (kind_of arrays n)
+pub within : (arrays : List Array) (n : ℕ) → before arrays (kind_of arrays n) n + room_of arrays n ≤ total arrays (kind_of arrays n)
 within [] n = omega arith
 within (a ∷ arrays) zero = omega (arith, same_there a.kind (length a.first))
 within (a ∷ arrays) (suc n) = omega (arith, within arrays n)
@@ -141,13 +141,13 @@ ram_total [] = refl
 ram_total (a ∷ arrays) = omega (arith, ram_total arrays, ram_here a.kind (length a.first), sum_by-cons (λ a. ram_size a.kind (length a.first)) a arrays)
 
 -- the words of each kind fit their area, over the first or the second bank
-record FitAreas (arrays : List Array) (bank : ℕ) : Type 0 where
-  nv : total arrays Nv ≤ 2048
-  const : total arrays Const ≤ 2048
-  vol : total arrays Vol ≤ 2048
-  banks : bank ≤ 2048
+pub record FitAreas (arrays : List Array) (bank : ℕ) : Type 0 where
+  pub nv : total arrays Nv ≤ 2048
+  pub const : total arrays Const ≤ 2048
+  pub vol : total arrays Vol ≤ 2048
+  pub banks : bank ≤ 2048
 
-fit_areas : (c : Core) (bank : ℕ) → IsWellFormed c → bank ≤ 2048 → FitAreas c.arrays bank
+pub fit_areas : (c : Core) (bank : ℕ) → IsWellFormed c → bank ≤ 2048 → FitAreas c.arrays bank
 fit_areas c bank w banks =
     let fram : sum_by (λ a. fram_size a.kind (length a.first)) c.arrays ≤ 2048 = w.fram in
     let ram : sum_by (λ a. ram_size a.kind (length a.first)) c.arrays ≤ 2048 = w.ram in
@@ -166,7 +166,7 @@ record IsPlace (arrays : List Array) (n i : ℕ) (k : Kind) : Type 0 where
   inside : i < room_of arrays n
 
 -- the address of a place, by its kind
-abbrev at_kind : List Array → (bank : ℕ) → Kind → ℕ → ℕ → ℕ
+abbrev pub at_kind : List Array → (bank : ℕ) → Kind → ℕ → ℕ → ℕ
 at_kind arrays bank k n i = from_of bank k + i + (start free_at_first k + before arrays k n)
 
 within_kind : (arrays : List Array) (n i : ℕ) (k : Kind) → IsPlace arrays n i k → before arrays k n + i < total arrays k
@@ -201,7 +201,7 @@ apart arrays bank n m i j fit h k same =
     (one, omega (arith, same_kind, behind))
 
 -- a place's address is its kind's
-address_is : (c : Core) (bank n i : ℕ) → i < room_of c.arrays n → place_address (layout_of c bank) n i ≡ at_kind c.arrays bank (kind_of c.arrays n) n i
+pub address_is : (c : Core) (bank n i : ℕ) → i < room_of c.arrays n → place_address (layout_of c bank) n i ≡ at_kind c.arrays bank (kind_of c.arrays n) n i
 address_is c bank n i inside = omega (arith, from_is bank free_at_first c.arrays n, offset_is free_at_first c.arrays n (omega (arith, inside)))
 
 room_there : (c : Core) (bank n i : ℕ) → i < room_at (layout_of c bank) n → i < room_of c.arrays n
@@ -233,12 +233,12 @@ program_outside c bank w banks n i inside =
 
 -- ---- in its kind's area
 
-abbrev base_of : Kind → ℕ
+abbrev pub base_of : Kind → ℕ
 base_of Nv = 14
 base_of Const = 0
 base_of Vol = 15
 
-base_is : (f : Free) (arrays : List Array) (n : ℕ) → (area_at (areas_from f arrays) n).base ≡ base_of (kind_of arrays n)
+pub base_is : (f : Free) (arrays : List Array) (n : ℕ) → (area_at (areas_from f arrays) n).base ≡ base_of (kind_of arrays n)
 base_is f [] zero = refl
 base_is f [] (suc n) = refl
 base_is f (a ∷ arrays) zero = base_here f a.kind (length a.first)

@@ -1,0 +1,4 @@
+pub mod FirstMemory
+pub mod FirstStores
+pub mod FirstWords
+pub mod Shown
