@@ -1,6 +1,6 @@
 -- The memory with which an image begins stands for the first state of the plan.
 use Rattle.std.specs.Prelude.{◌⊎◌, ◌==◌, ◌^◌, min, map, slice_index, slice_index_or, if◌then◌else◌}
-use Rattle.std.proofs.Common.{◌≡◌, ◌∙◌, ℕ, zero, suc, ◌+◌, ◌<◌, ◌≤◌, true, false, List, length, inl, inr, refl, sym, ap, subst, arith, eqb-true}
+use Rattle.std.proofs.Common.{◌≡◌, ◌∙◌, ℕ, zero, suc, ◌+◌, ◌<◌, ◌≤◌, true, false, List, [], length, inl, inr, refl, sym, ap, subst, arith, eqb-true}
 use Rattle.devices.specs.Reading.{values_in}
 use Rattle.devices.specs.declared.world.World.{World}
 use Rattle.task_ast.specs.declared.tree.Kind.TheVariants.{Nv, Const}
@@ -168,7 +168,7 @@ module _ (c : Core) (well : IsWellFormed c) where
       holds = λ at h. constant_first at h ∙ ap (λ (ws : List ℕ). slice_index ws at.index) (sym (constant_words_at scheme at.array (constant_kind c at.array h.counts)));
     };
     ram = tt;
-    readings = record { values = values; counts = λ q. refl };
+    readings = record { values = values; counts = λ q. omega arith };
     tidy = record {
       shape = record { homes = joined_long c.arrays (first_areas scheme firsts).0 firsts (long_area scheme) (firsts_long c.arrays); others = long_beside scheme };
       homes = whole_first c 14 (first_state c scheme times).store well (λ n counts. homes_first scheme n (home_kind c n counts));

@@ -1,6 +1,6 @@
 -- The words of FRAM with which an image begins.
 use Rattle.std.specs.Prelude.{replicate, slice_index, slice_index_or, map, flat_map}
-use Rattle.std.proofs.Common.{◌≡◌, ◌∙◌, ℕ, zero, suc, ◌+◌, ◌-◌, ◌<◌, ◌≤◌, List, [], ◌∷◌, ◌++◌, length, refl, sym, ap, subst, arith, length-append}
+use Rattle.std.proofs.Common.{◌≡◌, ◌∙◌, ℕ, zero, suc, ◌+◌, ◌-◌, ◌<◌, ◌≤◌, List, [], ◌∷◌, ◌++◌, length, refl, sym, ap, subst, arith, append_assoc, length-append}
 use Rattle.std.proofs.lemmas.List.{get_or_append_left, get_or-append-add, get_or-append_right, get_or_past, get_or-replicate, length-replicate}
 use Rattle.task_ast.specs.declared.tree.Kind.{Kind}
 use Rattle.task_ast.specs.declared.tree.Kind.TheVariants.{Nv, Const, Vol}
@@ -76,6 +76,10 @@ constant_at arrays n i is inside =
 
 -- ---- the whole of FRAM
 
+-- behind the state word, where there are constants
+there : (homes : List ℕ) (w : ℕ) (words : List ℕ) (k : ℕ) → slice_index (fram_with homes (w ∷ words)) (suc k) ≡ slice_index (homes ++ (replicate (4096 - length homes) 0 ++ w ∷ words)) k
+there homes w words k = ap (λ (ws : List ℕ). slice_index ws k) (append_assoc homes (replicate (4096 - length homes) 0) (w ∷ words))
+
 pub state_there : (homes constants : List ℕ) → slice_index (fram_with homes constants) 0 ≡ 258
 state_there homes [] = refl
 state_there homes (w ∷ words) = refl
@@ -83,15 +87,15 @@ state_there homes (w ∷ words) = refl
 -- behind the state word
 pub home_there : (homes constants : List ℕ) (k : ℕ) → k < length homes → slice_index (fram_with homes constants) (suc k) ≡ slice_index homes k
 home_there homes [] k few = refl
-home_there homes (w ∷ words) k few = get_or_append_left homes (replicate (4096 - length homes) 0 ++ w ∷ words) 0 k few
+home_there homes (w ∷ words) k few = there homes w words k ∙ get_or_append_left homes (replicate (4096 - length homes) 0 ++ w ∷ words) 0 k few
 
 -- behind the homes, up to where the constants begin
 pub none_between : (homes constants : List ℕ) (k : ℕ) → length homes ≤ k → k < 4096 → slice_index (fram_with homes constants) (suc k) ≡ 0
 none_between homes [] k far near = get_or_past homes k 0 far
 none_between homes (w ∷ words) k far near =
     let room : k - length homes < 4096 - length homes = omega (arith, far, near) in
-    let long : length (replicate (4096 - length homes) 0) ≡ 4096 - length homes = length-replicate (4096 - length homes) 0 in
-    get_or-append_right homes (replicate (4096 - length homes) 0 ++ w ∷ words) (length homes) k 0 refl far
+    let long : length {A = ℕ} (replicate (4096 - length homes) 0) ≡ 4096 - length homes = length-replicate (4096 - length homes) 0 in
+    there homes w words k ∙ get_or-append_right homes (replicate (4096 - length homes) 0 ++ w ∷ words) (length homes) k 0 refl far
     ∙ get_or_append_left (replicate (4096 - length homes) 0) (w ∷ words) 0 (k - length homes) (omega (arith, room, long)) ∙ get_or-replicate (4096 - length homes) (k - length homes) 0 0 room
 
 -- the constants
@@ -102,7 +106,7 @@ constant_there homes (w ∷ words) j few inside =
     let long : length zeros ≡ 4096 - length homes = length-replicate (4096 - length homes) 0 in
     let far : length homes ≤ 4096 + j = omega (arith, few) in
     let first : 4096 + j - length homes ≡ length zeros + j = omega (arith, long, few) in
-    get_or-append_right homes (zeros ++ w ∷ words) (length homes) (4096 + j) 0 refl far ∙ ap (slice_index (zeros ++ w ∷ words)) first ∙ get_or-append-add zeros (w ∷ words) j 0
+    there homes w words (4096 + j) ∙ get_or-append_right homes (zeros ++ w ∷ words) (length homes) (4096 + j) 0 refl far ∙ ap (slice_index (zeros ++ w ∷ words)) first ∙ get_or-append-add zeros (w ∷ words) j 0
 
 -- and nothing behind them
 pub none_behind : (homes constants : List ℕ) (k : ℕ) → length homes ≤ 4096 → 4096 + length constants ≤ k → slice_index (fram_with homes constants) (suc k) ≡ 0
@@ -112,4 +116,4 @@ none_behind homes (w ∷ words) k few far =
     let long : length zeros ≡ 4096 - length homes = length-replicate (4096 - length homes) 0 in
     let one : length (homes ++ (zeros ++ w ∷ words)) ≡ length homes + length (zeros ++ w ∷ words) = length-append homes (zeros ++ w ∷ words) in
     let two : length (zeros ++ w ∷ words) ≡ length zeros + length (w ∷ words) = length-append zeros (w ∷ words) in
-    get_or_past (homes ++ (zeros ++ w ∷ words)) k 0 (omega (arith, one, two, long, few, far))
+    there homes w words k ∙ get_or_past (homes ++ (zeros ++ w ∷ words)) k 0 (omega (arith, one, two, long, few, far))

@@ -1,5 +1,5 @@
 //! What an image's memory stands for, as the contracts of functions that do nothing (docs/CODE.md, "What is proved").
-ghost use Rattle.std.specs.Prelude.{◌≡◌, ℕ, List, slice_index};
+ghost use Rattle.std.specs.Prelude.{◌≡◌, ℕ, List, false, slice_index};
 ghost use Rattle.act_refines.specs.Between.{IsTidy, MemoryStands};
 ghost use Rattle.cell_laws.specs.Standing.{HasStore};
 ghost use Rattle.code_cuts.specs.Lasting.{doing_of};
