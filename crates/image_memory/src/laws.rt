@@ -20,7 +20,6 @@ ghost use Rattle.word_machine.specs.State.{Program};
 
 /// The first words of FRAM stand for the state with which a plan's run begins, whichever task may run next: the declared words of
 /// homes, in the bank that a boot finds, constants at their places, and nothing in any cell.
-#[tactic(auto, using(crate::proofs::FirstMemory::first_stands))]
 pub fn an_image_begins_with_the_first_state()
     ensures { (p : Program) (c : Core) (world : World) (scheme : Scheme) (times : List ℕ) → IsWellFormed c → ((q : ℕ) → p.values q ≡ values_in world.feeds q) → (t : CoreTask)
         → MemoryStands p (doing_of (rules_of c world) scheme t) false (slice_index (fram_of c.arrays)) (λ _. 0) (first_state c scheme times) }
