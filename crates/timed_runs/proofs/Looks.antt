@@ -249,7 +249,7 @@ all_timed world place_of p (row ∷ []) before s h = (
 all_timed world place_of p (row ∷ next ∷ rows) before s h = (
   boot_timed world place_of p before row.on s (clocked world p row (next ∷ rows) before s h),
   unless_over world (is_running (exec p row.on s).ending) (boots place_of p (next ∷ rows) (before + row.on) (fail_behind row (exec p row.on s)))
-  (λ on. all_timed world place_of p (next ∷ rows) (before + row.on) (fail_behind row (exec p row.on s)) (clocks_behind world p row next rows before s h (goes_on (exec p row.on s).ending on))),
+      (λ on. all_timed world place_of p (next ∷ rows) (before + row.on) (fail_behind row (exec p row.on s)) (clocks_behind world p row next rows before s h (goes_on (exec p row.on s).ending on))),
 )
 
 pub looks_timed : (p : Program) (place_of : ℕ → Place) (world : World) (s : State) → IsWithinLimits world → s.clock ≡ 0

@@ -3,4 +3,4 @@
 
 mod laws;
 
-pub use laws::the_time_of_each_look_is_the_clock;
+pub use laws::{a_machine_halts_where_nothing_is_left, the_time_of_each_look_is_the_clock};
