@@ -1,0 +1,10 @@
+pub mod Good
+pub mod LineGoods
+pub mod ActGoods
+pub mod ValueGoods
+pub mod FrameGoods
+pub mod CodeGoods
+pub mod Standing
+pub mod Places
+pub mod Placing
+pub mod Stops

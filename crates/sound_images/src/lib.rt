@@ -1,0 +1,2 @@
+//! The images of programs are sound.
+#![tactic(auto)]
