@@ -1,8 +1,7 @@
 -- What it means that a machine's code runs a plan, boot by boot.
-use Rattle.std.specs.Prelude.{List, [], ◌∷◌, ◌++◌, ◌≡◌, ℕ, suc, ◌+◌, ◌<◌, ◌≤◌, ◌^◌, length, None, Some}
+use Rattle.std.specs.Prelude.{List, [], ◌∷◌, ◌++◌, ◌≡◌, ℕ, suc, ◌+◌, ◌<◌, ◌≤◌, ◌^◌, length, Some}
 use Rattle.devices.specs.declared.event.Event.TheVariants as event
 use Rattle.devices.specs.Journal.{JournalEvent, Place, begins, looks, keeps, drops, issues, seals, copies, commits, traps}
-use Rattle.task_attempts.specs.Boots.{task_of}
 use Rattle.word_machine.specs.Events.{event_next}
 use Rattle.word_machine.specs.State as machine
 use Rattle.word_machine.specs.State.{Program}

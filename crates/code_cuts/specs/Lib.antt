@@ -1,4 +1,5 @@
 pub mod Acts
+pub mod Asked
 pub mod Boots
 pub mod Lasting
 pub mod Runs

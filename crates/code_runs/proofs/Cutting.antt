@@ -1,5 +1,5 @@
 -- An act's code at its place, cut anywhere.
-use Rattle.std.specs.Prelude.{◌⊎◌, ◌^◌, nat_lt}
+use Rattle.std.specs.Prelude.{◌⊎◌, nat_lt}
 use Rattle.std.proofs.Common.{◌≡◌, ◌≢◌, ◌∙◌, ℕ, zero, suc, ◌+◌, ◌-◌, ◌<◌, ◌≤◌, inl, inr, Bool, true, false, List, [], ◌∷◌, ◌++◌, refl, sym, ap, subst, append_assoc, append-nil, arith}
 use Rattle.std.proofs.lemmas.Bool.Decides.{nat_tests}
 use Rattle.devices.specs.Journal.{Place, traps}
@@ -25,15 +25,19 @@ use Rattle.run_plan.specs.Small.{Atom, Doing, Done, Way, after_atom, after_shown
 use Rattle.word_code.specs.ActCode.{act_code}
 use Rattle.act_refines.specs.Between.{AreRelated}
 use Rattle.act_refines.specs.Does.{Ends, GoesOn, RelatedBehind, Stops, frame_of, has_begun, way_at}
-use Rattle.act_refines.specs.Seen.{IsFront, Seen, behind, event_seen, steps_seen, trace_seen, write_seen}
-use Rattle.code_runs.specs.Cutting.{AreWhole, CutsBy, CutsWell, DoesWithin, IsSoonAfter, SoFar}
-use Rattle.code_runs.specs.Following.{HasEpochs, IfMore, Inside, Passes, PassesBy, RunsIn, StandsFor, end_seen, shown_by}
+use Rattle.act_refines.specs.Seen.{IsFront, Seen, behind, event_seen, steps_seen, tells, trace_seen, write_seen}
+use Rattle.code_cuts.specs.Acts.{AreWhole, CutsBy, IsQuiet, IsThrough, SoFar}
+use Rattle.code_cuts.specs.Lasting.{IsNear}
+use Rattle.code_cuts.specs.Runs.{end_seen, shown_by}
+use Rattle.code_runs.specs.Cutting.{FitsThere, KeepsBy}
+use Rattle.code_runs.specs.Following.{IfMore, Inside, Passes, PassesBy, RunsIn}
+use Rattle.code_runs.proofs.Near.{near_quiet, near_then, near_trap}
 use Rattle.code_runs.proofs.Splitting.{seen_more}
 
-is_less : (n m : ℕ) → nat_lt n m ≡ true → n < m
+pub is_less : (n m : ℕ) → nat_lt n m ≡ true → n < m
 is_less n m is = grind (arith, nat_tests)
 
-not_less : (n m : ℕ) → nat_lt n m ≡ false → m ≤ n
+pub not_less : (n m : ℕ) → nat_lt n m ≡ false → m ≤ n
 not_less n m is = grind (arith, nat_tests)
 
 -- ---- small steps, one list behind another
@@ -74,7 +78,7 @@ trapped_trace p zero code s is = refl
 trapped_trace p (suc k) code s is = (λ i. (trace.writes_at p (is i) s ++ trace.shows (event_at p (is i) s)) ++ trace.trace p k (step_at p (is i) s)) ∙ trapped_trace p k code s is
 
 -- before a machine that goes on, it went on
-running : (p : Program) (n steps : ℕ) (m there : Spot) → exec p steps (live m) ≡ live there → n ≤ steps → (exec p n (live m)).ending ≡ Running
+pub running : (p : Program) (n steps : ℕ) (m there : Spot) → exec p steps (live m) ≡ live there → n ≤ steps → (exec p n (live m)).ending ≡ Running
 running p n steps m there runs few = by (exec p n (live m)).ending refl
   where
     by : (e : Ending) → (exec p n (live m)).ending ≡ e → e ≡ Running
@@ -91,7 +95,7 @@ running p n steps m there runs few = by (exec p n (live m)).ending refl
 -- ---- an act that goes on, and one that traps
 
 -- within the steps in which the machine goes on
-inside_running : (p : Program) (place_of : ℕ → Place) (c : Core) (scheme : Scheme) (Stood : (ℕ → ℕ) → State → Type 0) (n : ℕ) (m : Spot) (s : State) (atoms : List Atom) (x : SoFar p place_of c scheme Stood n m s atoms)
+inside_running : (p : Program) (place_of : ℕ → Place) (c : Core) (scheme : Scheme) (Stood : machine.State → State → Type 0) (n : ℕ) (m : Spot) (s : State) (atoms : List Atom) (x : SoFar p place_of c scheme Stood n m s atoms)
     → (exec p n (live m)).ending ≡ Running → shown_by p place_of n m ≡ steps_seen c scheme x.front s
 inside_running p place_of c scheme Stood n m s atoms x is =
     ap (λ e. trace_seen place_of (trace.trace p n (live m)) ++ end_seen e) is ∙ append-nil (trace_seen place_of (trace.trace p n (live m))) ∙ x.shown
@@ -100,22 +104,34 @@ if_more : (left : List Atom) (x : Atom) (claim : Type 0) → claim → IfMore (l
 if_more [] x claim h = h
 if_more (y ∷ left) x claim h = h
 
+-- a machine that has trapped, or goes on, hasn't halted
+trapped_goes_on : (code : ℕ) → Trapped code ≡ Halted → ⊥
+trapped_goes_on code is = cc
+
+pub running_goes_on : Running ≡ Halted → ⊥
+running_goes_on is = cc
+
 -- all of an act that traps
-inside_trapped : (p : Program) (place_of : ℕ → Place) (c : Core) (scheme : Scheme) (Stood : (ℕ → ℕ) → State → Type 0) (n most : ℕ) (m : Spot) (s : State) (atoms : List Atom) (why : Trap) → AreWhole p place_of c scheme Stood m s atoms
+inside_trapped : (p : Program) (place_of : ℕ → Place) (c : Core) (scheme : Scheme) (Stood : machine.State → State → Type 0) (n most : ℕ) (m : Spot) (s : State) (atoms : List Atom) (why : Trap) → AreWhole p place_of c scheme Stood m s atoms
     → (exec p n (live m)).ending ≡ Trapped (code_of why) → trace_seen place_of (trace.trace p n (live m)) ≡ steps_seen c scheme atoms s → Inside p place_of c scheme Stood n most m s (fails atoms why)
 inside_trapped p place_of c scheme Stood n most m s atoms why w ended all =
     let trap : List Atom = showing (traps (code_of why)) ∷ [] in
+    let through : IsThrough p c scheme Stood n m s atoms = w.last n all in
     record {
       front = atoms ++ trap;
       left = [];
       whole = append-nil (atoms ++ trap);
       shown = (λ i. all i ++ end_seen (ended i)) ∙ sym (steps_more c scheme atoms trap s);
-      stood = subst (Stood (exec p n (live m)).store) (sym (behind_more c atoms trap s)) (w.last n all);
+      stood = subst (Stood (exec p n (live m))) (sym (behind_more c atoms trap s)) through.stood;
+      near = subst (IsNear c n (steps_seen c scheme (atoms ++ trap) s) s) (sym (behind_more c atoms trap s))
+          (subst (λ xs. IsNear c n xs s (behind c atoms s)) (sym (steps_more c scheme atoms trap s))
+          (near_then c n 0 n (steps_seen c scheme atoms s) (tells (traps (code_of why)) ∷ []) s (behind c atoms s) (behind c atoms s) (omega arith) through.near (near_trap c (code_of why) (behind c atoms s))));
+      on = λ is. trapped_goes_on (code_of why) (sym ended ∙ is);
       in_time = tt;
     }
 
 -- one that traps, before its trap and behind it
-fails_by : (p : Program) (place_of : ℕ → Place) (c : Core) (scheme : Scheme) (Stood : (ℕ → ℕ) → State → Type 0) (n most : ℕ) (m : Spot) (s : State) (atoms : List Atom) (why : Trap) → AreWhole p place_of c scheme Stood m s atoms
+fails_by : (p : Program) (place_of : ℕ → Place) (c : Core) (scheme : Scheme) (Stood : machine.State → State → Type 0) (n most : ℕ) (m : Spot) (s : State) (atoms : List Atom) (why : Trap) → AreWhole p place_of c scheme Stood m s atoms
     → Stops p place_of most m (code_of why) (steps_seen c scheme atoms s) → Inside p place_of c scheme Stood n most m s (fails atoms why)
 fails_by p place_of c scheme Stood n most m s atoms why w x = by (nat_lt n x.steps) refl
   where
@@ -131,6 +147,8 @@ fails_by p place_of c scheme Stood n most m s atoms why w x = by (nat_lt n x.ste
           whole = sym (append_assoc so.front so.left trap) ∙ ap (λ (ys : List Atom). ys ++ trap) so.whole;
           shown = inside_running p place_of c scheme Stood n m s atoms so is;
           stood = so.stood;
+          near = so.near;
+          on = λ halts. running_goes_on (sym is ∙ halts);
           in_time = if_more so.left (showing (traps (code_of why))) (n < most) (omega (arith, early, steps_few));
         }
     at Halted early is =
@@ -155,60 +173,52 @@ fails_by p place_of c scheme Stood n most m s atoms why w x = by (nat_lt n x.ste
         inside_trapped p place_of c scheme Stood n most m s atoms why w (ap (λ t. t.ending) stays ∙ x.ended) (ap (trace_seen place_of) same_trace ∙ x.shown)
 
 -- one that goes on, by whether it has gone its way
-does_by : (p : Program) (place_of : ℕ → Place) (c : Core) (scheme : Scheme) (Stood : (ℕ → ℕ) → State → Type 0) (Holds : ℕ → Spot → State → Type 0) (Related : Spot → State → Type 0) (n most : ℕ) (to : Way → ℕ) (m : Spot) (s : State)
-    (atoms : List Atom) (change : State → State) (way : Way) → AreWhole p place_of c scheme Stood m s atoms
-    → (g : GoesOn p place_of most m (to way) (steps_seen c scheme atoms s) (λ there. Related there (change (behind c atoms s)))) → (g.steps ≤ n → Holds (n - g.steps) g.there (change (behind c atoms s)))
-    → Inside p place_of c scheme Stood n most m s (does atoms change way) ⊎ Passes p place_of c scheme Holds Related n most (to way) m atoms s (change (behind c atoms s))
-does_by p place_of c scheme Stood Holds Related n most to m s atoms change way w g holds = by (nat_lt n g.steps) refl
+does_by : (p : Program) (place_of : ℕ → Place) (c : Core) (scheme : Scheme) (Stood : machine.State → State → Type 0) (After : ℕ → Spot → State → Type 0) (Related : Spot → State → Type 0) (n most : ℕ) (to : Way → ℕ) (m : Spot) (s : State)
+    (atoms : List Atom) (change : State → State) (way : Way) → AreWhole p place_of c scheme Stood m s atoms → IsQuiet (behind c atoms s) (change (behind c atoms s))
+    → GoesOn p place_of most m (to way) (steps_seen c scheme atoms s) (λ there. Related there (change (behind c atoms s))) → KeepsBy c scheme After n s (does atoms change way)
+    → Inside p place_of c scheme Stood n most m s (does atoms change way) ⊎ Passes p place_of c scheme After Related n most (to way) m atoms s (change (behind c atoms s))
+does_by p place_of c scheme Stood After Related n most to m s atoms change way w quiet g keeps = by (nat_lt n g.steps) refl
   where
-    by : (b : Bool) → nat_lt n g.steps ≡ b → Inside p place_of c scheme Stood n most m s (does atoms change way) ⊎ Passes p place_of c scheme Holds Related n most (to way) m atoms s (change (behind c atoms s))
+    all : trace_seen place_of (trace.trace p g.steps (live m)) ≡ steps_seen c scheme atoms s
+    all = ap (trace_seen place_of) g.goes.seen ∙ g.shown
+
+    near : IsNear c g.steps (steps_seen c scheme atoms s) s (change (behind c atoms s))
+    near = let through : IsThrough p c scheme Stood g.steps m s atoms = w.last g.steps all in
+        near_quiet c g.steps (steps_seen c scheme atoms s) s (behind c atoms s) (change (behind c atoms s)) through.near quiet
+
+    by : (b : Bool) → nat_lt n g.steps ≡ b → Inside p place_of c scheme Stood n most m s (does atoms change way) ⊎ Passes p place_of c scheme After Related n most (to way) m atoms s (change (behind c atoms s))
     by true is =
         let early : n < g.steps = is_less n g.steps is in
         let few : n ≤ g.steps = omega (arith, early) in
         let steps_few : g.steps ≤ most = g.few in
-        let so = w.fronts n (front_of p place_of n g.steps m (steps_seen c scheme atoms s) few (ap (trace_seen place_of) g.goes.seen ∙ g.shown)) in
+        let so = w.fronts n (front_of p place_of n g.steps m (steps_seen c scheme atoms s) few all) in
+        let goes_on : (exec p n (live m)).ending ≡ Running = running p n g.steps m g.there g.goes.runs few in
         inl (record {
           front = so.front;
           left = so.left;
           whole = so.whole;
-          shown = inside_running p place_of c scheme Stood n m s atoms so (running p n g.steps m g.there g.goes.runs few);
+          shown = inside_running p place_of c scheme Stood n m s atoms so goes_on;
           stood = so.stood;
+          near = so.near;
+          on = λ halts. running_goes_on (sym goes_on ∙ halts);
           in_time = omega (arith, early, steps_few);
         })
-    by false is = inr (record { goes = g; few = not_less n g.steps is; holds = holds (not_less n g.steps is) })
-
--- ---- epochs
-
--- what shows nothing takes any number of steps, what shows something one at least
-shows_steps : (p : Program) (place_of : ℕ → Place) (steps : ℕ) (m : Spot) (seen : List Seen) → trace_seen place_of (trace.trace p steps (live m)) ≡ seen → seen ≢ [] → 0 < steps
-unfolding trace.trace
-shows_steps p place_of zero m seen is some = absurd (some (sym is))
-shows_steps p place_of (suc steps) m seen is some = omega arith
-
-epochs_left : (p : Program) (place_of : ℕ → Place) (c : Core) (scheme : Scheme) (n most pc : ℕ) (m : Spot) (s to : State) (atoms : List Atom) (Related : Spot → Type 0) (g : GoesOn p place_of most m pc (steps_seen c scheme atoms s) Related)
-    → IsSoonAfter c scheme atoms s to → HasEpochs n m s → g.steps ≤ n → HasEpochs (n - g.steps) g.there to
-epochs_left p place_of c scheme n most pc m s to atoms Related g (inl same) room few = omega (arith, same, room, few)
-epochs_left p place_of c scheme n most pc m s to atoms Related g (inr next) room few =
-    let later : to.epoch ≡ s.epoch + 1 = next.0 in
-    let some : 0 < g.steps = shows_steps p place_of g.steps m (steps_seen c scheme atoms s) (ap (trace_seen place_of) g.goes.seen ∙ g.shown) next.1 in
-    omega (arith, later, room, few, some)
+    by false is =
+        let few : g.steps ≤ n = not_less n g.steps is in
+        inr (record { goes = g; few = few; near = near; holds = keeps g.steps g.there few near })
 
 -- ---- an act at its place
 
-runs_by : (p : Program) (place_of : ℕ → Place) (d : Doing) (Stood : (ℕ → ℕ) → State → Type 0) (a : Act) (n most : ℕ) (to : Way → ℕ) (m : Spot) (s : State) (done : Done)
-    → CutsBy p place_of (core_of d) d.scheme Stood m s done → Ends p place_of d a most to m s done → HasEpochs n m s
-    → Inside p place_of (core_of d) d.scheme Stood n most m s done ⊎ PassesBy p place_of (core_of d) d.scheme HasEpochs (RelatedBehind p d a) n most to m s done
-runs_by p place_of d Stood a n most to m s (does atoms change way) cuts g room =
-    does_by p place_of (core_of d) d.scheme Stood HasEpochs (RelatedBehind p d a) n most to m s atoms change way cuts.0 g
-    (epochs_left p place_of (core_of d) d.scheme n most (to way) m s (change (behind (core_of d) atoms s)) atoms (λ there. RelatedBehind p d a there (change (behind (core_of d) atoms s))) g cuts.1 room)
-runs_by p place_of d Stood a n most to m s (fails atoms why) cuts x room = inl (fails_by p place_of (core_of d) d.scheme Stood n most m s atoms why cuts x)
-runs_by p place_of d Stood a n most to m s stuck cuts x room = elim cuts [ ]
+runs_by : (p : Program) (place_of : ℕ → Place) (d : Doing) (Stood : machine.State → State → Type 0) (After : ℕ → Spot → State → Type 0) (a : Act) (n most : ℕ) (to : Way → ℕ) (m : Spot) (s : State) (done : Done)
+    → CutsBy p place_of (core_of d) d.scheme Stood m s done → Ends p place_of d a most to m s done → KeepsBy (core_of d) d.scheme After n s done
+    → Inside p place_of (core_of d) d.scheme Stood n most m s done ⊎ PassesBy p place_of (core_of d) d.scheme After (RelatedBehind p d a) n most to m s done
+runs_by p place_of d Stood After a n most to m s (does atoms change way) cuts g keeps = does_by p place_of (core_of d) d.scheme Stood After (RelatedBehind p d a) n most to m s atoms change way cuts.0 cuts.1 g keeps
+runs_by p place_of d Stood After a n most to m s (fails atoms why) cuts x keeps = inl (fails_by p place_of (core_of d) d.scheme Stood n most m s atoms why cuts x)
+runs_by p place_of d Stood After a n most to m s stuck cuts x keeps = elim cuts [ ]
 
-pub runs_in : (p : Program) (place_of : ℕ → Place) (d : Doing) (number : ℕ) (keeps : Bool) (most : State → ℕ) (a : Act) (at next : ℕ) → IsWellFormed (core_of d) → DoesWithin p place_of d number keeps most a
-    → Lie p at (act_code (frame_of d number) keeps a at next) → ((m : Spot) (s : State) → m.pc ≡ at → AreRelated p d (has_begun a) m s → CutsWell p place_of d a m s)
-    → RunsIn p place_of d number (StandsFor (core_of d) d.scheme) HasEpochs most a at next
-runs_in p place_of d number keeps most a at next well act has cuts n m s pc related room =
-    let epoch_fits : s.epoch + 1 < 2 ^ 24 = omega (arith, room) in
-    runs_by p place_of d (StandsFor (core_of d) d.scheme) a n (most s) (way_at (frame_of d number) a at next) m s (act_done d a s) (cuts m s pc related)
-    (subst (λ w. Ends p place_of d a (most s) (way_at (frame_of d number) a w next) m s (act_done d a s)) pc
-    (act next m s well (subst (λ w. Lie p w (act_code (frame_of d number) keeps a w next)) (sym pc) has) related epoch_fits)) room
+pub runs_in : (p : Program) (place_of : ℕ → Place) (d : Doing) (number : ℕ) (Stood : machine.State → State → Type 0) (Before After : ℕ → Spot → State → Type 0) (most : State → ℕ) (a : Act) (at next : ℕ)
+    → ((n : ℕ) (m : Spot) (s : State) → m.pc ≡ at → AreRelated p d (has_begun a) m s → Before n m s → FitsThere p place_of d number Stood After n (most s) a at next m s)
+    → RunsIn p place_of d number Stood Before After most a at next
+runs_in p place_of d number Stood Before After most a at next fits n m s pc related known =
+    let here : FitsThere p place_of d number Stood After n (most s) a at next m s = fits n m s pc related known in
+    runs_by p place_of d Stood After a n (most s) (way_at (frame_of d number) a at next) m s (act_done d a s) here.cuts here.ends here.keeps

@@ -10,6 +10,7 @@ use Rattle.task_ast.specs.declared.core_form.CoreExpr.{CoreExpr}
 use Rattle.walk_run.specs.Plain.{chosen}
 use Rattle.walk_run.specs.Value.{value_of}
 use Rattle.walk_run.specs.declared.trap.Trap.{Trap}
+use Rattle.word_machine.specs.State as machine
 use Rattle.word_machine.specs.State.{Program}
 use Rattle.word_machine.specs.Straight.{Spot}
 use Rattle.run_plan.specs.declared.act.Act.{Act, Row_of-Act, end_of-Act, more_of-Act, items-the_row-Act}
@@ -30,7 +31,7 @@ use Rattle.code_runs.specs.Following.{ActRuns, ActsRun, IsWay, Leads, LeadsAgain
 use Rattle.code_runs.proofs.Following.{act_follows, commit_follows}
 use Rattle.code_runs.proofs.InRows.{in_act}
 
-module _ (p : Program) (place_of : ℕ → Place) (d : Doing) (number : ℕ) (Stood : (ℕ → ℕ) → State → Type 0) (Holds : ℕ → Spot → State → Type 0) (most : ℕ) (again : Onward) where
+module _ (p : Program) (place_of : ℕ → Place) (d : Doing) (number : ℕ) (Stood : machine.State → State → Type 0) (Holds : ℕ → Spot → State → Type 0) (most : ℕ) (again : Onward) where
   -- a region that the task hasn't has no code
   no_region : (r : ℕ) → length d.firsts ≡ regions d.setting.task → nat_lt r (regions d.setting.task) ≡ false → act_size (frame_of d number) (act.Restore r) ≡ 0
   no_region r long absent = let e : nat_lt r (length d.firsts) ≡ false = ap (nat_lt r) long ∙ absent in rw e
@@ -45,11 +46,11 @@ module _ (p : Program) (place_of : ℕ → Place) (d : Doing) (number : ℕ) (St
       let rest : LeadsFirst p place_of d Stood Holds (suc most) behind_at (acts_run d again (map act.Restore rs) go) = regions_follow rs behind_at next go long rest_is runs.1 on in
       by (nat_lt r (regions d.setting.task)) refl runs.0 rest
     where
-      by : (b : Bool) → nat_lt r (regions d.setting.task) ≡ b → IfThere b (RunsAt p place_of d number Stood Holds (act.Restore r) at (at + act_size (frame_of d number) (act.Restore r)))
+      by : (b : Bool) → nat_lt r (regions d.setting.task) ≡ b → IfThere b (RunsAt p place_of d number Stood Holds Holds (act.Restore r) at (at + act_size (frame_of d number) (act.Restore r)))
           → LeadsFirst p place_of d Stood Holds (suc most) (at + act_size (frame_of d number) (act.Restore r)) (acts_run d again (map act.Restore rs) go)
           → LeadsFirst p place_of d Stood Holds (suc most) at (if_there b (act_steps d (act.Restore r) (straight (acts_run d again (map act.Restore rs) go))) (acts_run d again (map act.Restore rs) go))
       by true there here rest =
-          act_follows p place_of d number Stood Holds (AreRelated p d false) (act.Restore r) at (at + act_size (frame_of d number) (act.Restore r)) most (straight (acts_run d again (map act.Restore rs) go)) (λ m s related. related) here (λ s way goes. rest)
+          act_follows p place_of d number Stood Holds Holds (AreRelated p d false) (act.Restore r) at (at + act_size (frame_of d number) (act.Restore r)) most (straight (acts_run d again (map act.Restore rs) go)) (λ m s related. related) here (λ s way goes. rest)
       by false absent here rest =
           let none : act_size (frame_of d number) (act.Restore r) ≡ 0 = no_region r long absent in
           let same_place : at + act_size (frame_of d number) (act.Restore r) ≡ at = omega (arith, none) in
@@ -75,22 +76,22 @@ not_third_first is = cc
 not_third_second : third_way ≡ second_way → ⊥
 not_third_second is = cc
 
-entry_is : (at next n : _) (row : Row_of-Act n) → entry row at next ≡ acts_entry (items-the_row-Act n row) at next
+pub entry_is : (at next n : _) (row : Row_of-Act n) → entry row at next ≡ acts_entry (items-the_row-Act n row) at next
 entry_is at next n end_of-Act = refl
 entry_is at next n (more_of-Act a rest) = refl
 
-module _ (p : Program) (place_of : ℕ → Place) (d : Doing) (number : ℕ) (Stood : (ℕ → ℕ) → State → Type 0) (Holds : ℕ → Spot → State → Type 0) where
+module _ (p : Program) (place_of : ℕ → Place) (d : Doing) (number : ℕ) (Stood : machine.State → State → Type 0) (Ready : ℕ → ℕ → Spot → State → Type 0) (Holds : ℕ → Spot → State → Type 0) where
   -- a row's acts are those of the list that it shows
-  rows_run : (at next n : _) (row : Row_of-Act n) → RowRuns p place_of d number Stood Holds row at next ≡ ActsRun p place_of d number Stood Holds (items-the_row-Act n row) at next
+  rows_run : (at next n : _) (row : Row_of-Act n) → RowRuns p place_of d number Stood Ready Holds row at next ≡ ActsRun p place_of d number Stood Ready Holds (items-the_row-Act n row) at next
   rows_run at next n end_of-Act = refl
   rows_run at next n (more_of-Act a rest) =
       let behind_at : ℕ = at + act_size (frame_of d number) a in
-      λ i. ActRuns p place_of d number Stood Holds a at (entry_is behind_at next _ rest i) × rows_run behind_at next _ rest i
+      λ i. ActRuns p place_of d number Stood Ready Holds a at (entry_is behind_at next _ rest i) × rows_run behind_at next _ rest i
 
-  pub lists_run : (at next : ℕ) (acts : List Act) → RowRuns p place_of d number Stood Holds (act_row_of acts).1 at next ≡ ActsRun p place_of d number Stood Holds acts at next
-  lists_run at next acts = rows_run at next (act_row_of acts).0 (act_row_of acts).1 ∙ ap (λ x. ActsRun p place_of d number Stood Holds x at next) (act_row_shows acts)
+  pub lists_run : (at next : ℕ) (acts : List Act) → RowRuns p place_of d number Stood Ready Holds (act_row_of acts).1 at next ≡ ActsRun p place_of d number Stood Ready Holds acts at next
+  lists_run at next acts = rows_run at next (act_row_of acts).0 (act_row_of acts).1 ∙ ap (λ x. ActsRun p place_of d number Stood Ready Holds x at next) (act_row_shows acts)
 
-module _ (p : Program) (place_of : ℕ → Place) (d : Doing) (number : ℕ) (Stood : (ℕ → ℕ) → State → Type 0) (Holds : ℕ → Spot → State → Type 0) (most : ℕ) (again : Onward) where
+module _ (p : Program) (place_of : ℕ → Place) (d : Doing) (number : ℕ) (Stood : machine.State → State → Type 0) (Ready : ℕ → ℕ → Spot → State → Type 0) (Holds : ℕ → Spot → State → Type 0) (most : ℕ) (again : Onward) where
   -- by the way that it goes
   test_ways : (first second next : ℕ) (one two : Onward) → Leads p place_of d Stood Holds (suc most) first one → Leads p place_of d Stood Holds (suc most) second two → (way : Way) → (way ≡ first_way) ⊎ (way ≡ second_way)
       → Leads p place_of d Stood Holds (suc most) (way_to first second next next way) (by_way one two nothing nothing way)
@@ -102,48 +103,48 @@ module _ (p : Program) (place_of : ℕ → Place) (d : Doing) (number : ℕ) (St
   test_ways first second next one two a b third_way (inr is) = absurd (not_third_second is)
 
   -- one act in each list, behind which nothing comes
-  pub test_follows : (c : CoreExpr) (x y : Act) (at next : ℕ) → ActRuns p place_of d number Stood Holds (act.Test c (x ∷ []) (y ∷ [])) at next
-      → ((at : ℕ) → ActRuns p place_of d number Stood Holds x at next → Leads p place_of d Stood Holds (suc most) at (act_run d again x nothing))
-      → ((at : ℕ) → ActRuns p place_of d number Stood Holds y at next → Leads p place_of d Stood Holds (suc most) at (act_run d again y nothing))
+  pub test_follows : (c : CoreExpr) (x y : Act) (at next : ℕ) → ActRuns p place_of d number Stood Ready Holds (act.Test c (x ∷ []) (y ∷ [])) at next
+      → ((at : ℕ) → ActRuns p place_of d number Stood Ready Holds x at next → Leads p place_of d Stood Holds (suc most) at (act_run d again x nothing))
+      → ((at : ℕ) → ActRuns p place_of d number Stood Ready Holds y at next → Leads p place_of d Stood Holds (suc most) at (act_run d again y nothing))
       → Leads p place_of d Stood Holds (suc most) at (act_run d again (act.Test c (x ∷ []) (y ∷ [])) nothing)
   test_follows c x y at next runs first second =
       let yes_at : ℕ = at + expr_size c + 4 in
       let no_at : ℕ = yes_at + row_size (frame_of d number) (act_row_of (x ∷ [])).1 in
-      let x_runs : ActsRun p place_of d number Stood Holds (x ∷ []) yes_at next = subst (λ t. t) (lists_run p place_of d number Stood Holds yes_at next (x ∷ [])) runs.1 in
-      let y_runs : ActsRun p place_of d number Stood Holds (y ∷ []) no_at next = subst (λ t. t) (lists_run p place_of d number Stood Holds no_at next (y ∷ [])) runs.2 in
+      let x_runs : ActsRun p place_of d number Stood Ready Holds (x ∷ []) yes_at next = subst (λ t. t) (lists_run p place_of d number Stood Ready Holds yes_at next (x ∷ [])) runs.1 in
+      let y_runs : ActsRun p place_of d number Stood Ready Holds (y ∷ []) no_at next = subst (λ t. t) (lists_run p place_of d number Stood Ready Holds no_at next (y ∷ [])) runs.2 in
       let one : Leads p place_of d Stood Holds (suc most) (entry (act_row_of (x ∷ [])).1 yes_at next) (row_run d again (act_row_of (x ∷ [])).1 nothing) =
       subst (λ pc. Leads p place_of d Stood Holds (suc most) pc (row_run d again (act_row_of (x ∷ [])).1 nothing)) (sym (entry_of_acts yes_at next (x ∷ [])))
       (subst (Leads p place_of d Stood Holds (suc most) yes_at) (sym (run_lists d again (x ∷ []) nothing)) (first yes_at x_runs.0)) in
       let two : Leads p place_of d Stood Holds (suc most) (entry (act_row_of (y ∷ [])).1 no_at next) (row_run d again (act_row_of (y ∷ [])).1 nothing) =
       subst (λ pc. Leads p place_of d Stood Holds (suc most) pc (row_run d again (act_row_of (y ∷ [])).1 nothing)) (sym (entry_of_acts no_at next (y ∷ [])))
       (subst (Leads p place_of d Stood Holds (suc most) no_at) (sym (run_lists d again (y ∷ []) nothing)) (second no_at y_runs.0)) in
-      act_follows p place_of d number Stood Holds (AreRelated p d true) (act.Test c (x ∷ []) (y ∷ [])) at next most (by_way (row_run d again (act_row_of (x ∷ [])).1 nothing) (row_run d again (act_row_of (y ∷ [])).1 nothing) nothing nothing)
+      act_follows p place_of d number Stood Holds Holds (AreRelated p d true) (act.Test c (x ∷ []) (y ∷ [])) at next most (by_way (row_run d again (act_row_of (x ∷ [])).1 nothing) (row_run d again (act_row_of (y ∷ [])).1 nothing) nothing nothing)
       (λ m s related. related) runs.0
       (λ s way goes. test_ways (entry (act_row_of (x ∷ [])).1 yes_at next) (entry (act_row_of (y ∷ [])).1 no_at next) next (row_run d again (act_row_of (x ∷ [])).1 nothing) (row_run d again (act_row_of (y ∷ [])).1 nothing) one two way
       (test_goes (value_of c s.store) way goes))
 
 -- ---- attempts
 
-module _ (p : Program) (place_of : ℕ → Place) (d : Doing) (number : ℕ) (Stood : (ℕ → ℕ) → State → Type 0) (Holds : ℕ → Spot → State → Type 0) (most : ℕ) (again : Onward) (leads : LeadsAgain p place_of d Stood Holds most again) where
+module _ (p : Program) (place_of : ℕ → Place) (d : Doing) (number : ℕ) (Stood : machine.State → State → Type 0) (Ready : ℕ → ℕ → Spot → State → Type 0) (Holds : ℕ → Spot → State → Type 0) (most : ℕ) (again : Onward) (leads : LeadsAgain p place_of d Stood Ready most again) where
   -- an exit leads on by commits alone
-  exiting : (e : CoreExit) (at next : ℕ) → ActRuns p place_of d number Stood Holds (exit_act e) at next → Leads p place_of d Stood Holds (suc most) at (act_run d again (exit_act e) nothing)
-  exiting (exit.Next t) at next runs = commit_follows p place_of d number Stood Holds t at next most again runs.0 runs.1 leads
-  exiting exit.Stop at next runs = commit_follows p place_of d number Stood Holds 0 at next most again runs.0 runs.1 leads
+  exiting : (e : CoreExit) (at next : ℕ) → ActRuns p place_of d number Stood Ready Holds (exit_act e) at next → Leads p place_of d Stood Holds (suc most) at (act_run d again (exit_act e) nothing)
+  exiting (exit.Next t) at next runs = commit_follows p place_of d number Stood Ready Holds t at next most again runs.0 runs.1 leads
+  exiting exit.Stop at next runs = commit_follows p place_of d number Stood Ready Holds 0 at next most again runs.0 runs.1 leads
   exiting (exit.Choose' c u (more_of-CoreExit x end_of-CoreExit) v (more_of-CoreExit y end_of-CoreExit)) at next runs =
-      test_follows p place_of d number Stood Holds most again c (exit_act x) (exit_act y) at next runs (λ at runs. exiting x at next runs) (λ at runs. exiting y at next runs)
+      test_follows p place_of d number Stood Ready Holds most again c (exit_act x) (exit_act y) at next runs (λ at runs. exiting x at next runs) (λ at runs. exiting y at next runs)
 
   -- acts that end with an exit come to nothing behind it
-  committing : (acts : List Act) (e : CoreExit) (at next : ℕ) → ActsRun p place_of d number Stood Holds (acts ++ exit_act e ∷ []) at next
+  committing : (acts : List Act) (e : CoreExit) (at next : ℕ) → ActsRun p place_of d number Stood Ready Holds (acts ++ exit_act e ∷ []) at next
       → Leads p place_of d Stood Holds (suc most) (acts_entry (acts ++ exit_act e ∷ []) at next) (acts_run d again (acts ++ exit_act e ∷ []) nothing)
   committing [] e at next runs = exiting e at next runs.0
   committing (a ∷ acts) e at next runs =
       let behind_at : ℕ = at + act_size (frame_of d number) a in
-      in_act p place_of d number Stood Holds most again leads a at (acts_entry (acts ++ exit_act e ∷ []) behind_at next) (acts_run d again (acts ++ exit_act e ∷ []) nothing) runs.0 (committing acts e behind_at next runs.1)
+      in_act p place_of d number Stood Ready Holds most again leads a at (acts_entry (acts ++ exit_act e ∷ []) behind_at next) (acts_run d again (acts ++ exit_act e ∷ []) nothing) runs.0 (committing acts e behind_at next runs.1)
 
   -- an attempt
-  pub attempt_follows : (t : ℕ) (acts : List Act) (e : CoreExit) (at next : ℕ) → AttemptRuns p place_of d number Stood Holds t acts e at next
-      → LeadsFirst p place_of d Stood Holds (suc most) at (acts_run d again (attempt t acts e) nothing)
+  pub attempt_follows : (t : ℕ) (acts : List Act) (e : CoreExit) (at next : ℕ) → AttemptRuns p place_of d number Stood Ready Holds t acts e at next
+      → LeadsFirst p place_of d Stood (Ready number) (suc most) at (acts_run d again (attempt t acts e) nothing)
   attempt_follows t acts e at next runs =
       let behind_at : ℕ = at + act_size (frame_of d number) (act.Begin t) in
-      act_follows p place_of d number Stood Holds (AreRelated p d true) (act.Begin t) at (acts_entry (acts ++ exit_act e ∷ []) behind_at next) most (straight (acts_run d again (acts ++ exit_act e ∷ []) nothing))
+      act_follows p place_of d number Stood (Ready number) Holds (AreRelated p d true) (act.Begin t) at (acts_entry (acts ++ exit_act e ∷ []) behind_at next) most (straight (acts_run d again (acts ++ exit_act e ∷ []) nothing))
       (λ m s related. related) runs.0 (λ s way goes. committing acts e behind_at next runs.1)

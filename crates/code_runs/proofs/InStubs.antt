@@ -5,6 +5,7 @@ use Rattle.devices.specs.Journal.{Place}
 use Rattle.task_ast.specs.declared.core_form.Core.{Core}
 use Rattle.task_ast.specs.declared.core_form.CoreTask.{CoreTask}
 use Rattle.task_attempts.specs.Boots.{task_of}
+use Rattle.task_attempts.specs.State.{Rules}
 use Rattle.word_isa.specs.declared.instr.Instr.TheVariants.{Halt}
 use Rattle.word_isa.specs.declared.parts.Scheme.{Scheme}
 use Rattle.word_machine.specs.Events.{event, event_at, event_next}
@@ -25,42 +26,51 @@ use Rattle.act_laws.specs.Codes.{Goes}
 use Rattle.act_refines.specs.Between.{AreRelated}
 use Rattle.act_refines.specs.Seen.{trace_seen}
 use Rattle.code_runs.specs.Attempts.{LeadsFirst, attempt}
-use Rattle.code_runs.specs.Following.{Cut, HasEpochs, IsInProgress, LeadsAgain, RelatedNext, StandsFor, end_seen, shown_by}
+use Rattle.code_cuts.specs.Lasting.{Lasts}
+use Rattle.code_cuts.specs.Runs.{Cut, IsInProgress, end_seen, shown_by, smalls_seen}
+use Rattle.code_runs.specs.Claims.{GoesWell, IsReady}
+use Rattle.code_runs.specs.Following.{LeadsAgain, RelatedNext}
 use Rattle.code_runs.specs.Stubs.{AllStubsRun, StubRuns}
 use Rattle.code_runs.proofs.InAttempts.{attempt_follows}
+use Rattle.code_runs.proofs.Near.{near_later, near_none}
 use Rattle.code_runs.proofs.Splitting.{exec_behind, shown_behind}
 
 -- ---- a step that shows nothing
 
-fewer : (a b : ℕ) (rest : Smalls) → a ≤ b → IsInProgress b rest → IsInProgress a rest
+pub fewer : (a b : ℕ) (rest : Smalls) → a ≤ b → IsInProgress b rest → IsInProgress a rest
 fewer a b [] less h = tt
 fewer a b (x ∷ rest) less h = omega (arith, less, h)
 
 -- before it
-cut_now : (p : Program) (place_of : ℕ → Place) (c : Core) (scheme : Scheme) (Stood : (ℕ → ℕ) → State → Type 0) (spent : ℕ) (m there : Spot) (s : State) (xs : Smalls) → there.store ≡ m.store
-    → Cut p place_of c scheme Stood 0 (spent + 1) there s xs → Cut p place_of c scheme Stood 0 spent m s xs
+pub cut_now : (p : Program) (place_of : ℕ → Place) (rules : Rules) (scheme : Scheme) (spent pc clock : ℕ) (m : Spot) (s : State) (xs : Smalls)
+    → Cut p place_of rules.core scheme (Lasts p rules scheme) 0 (spent + 1) (record m { pc = pc; clock = clock }) s xs → Cut p place_of rules.core scheme (Lasts p rules scheme) 0 spent m s xs
 unfolding exec trace.trace
-cut_now p place_of c scheme Stood spent m there s xs stored r = record {
+cut_now p place_of rules scheme spent pc clock m s xs r = record {
   front = r.front;
   rest = r.rest;
   whole = r.whole;
   shown = r.shown;
-  stood = subst (λ w. Stood w (after s r.front)) stored r.stood;
+  stood = r.stood;
+  near = r.near;
+  on = r.on;
   within = fewer (spent + 0) (spent + 1 + 0) r.rest (omega arith) r.within;
 }
 
 -- and behind it
-cut_later : (p : Program) (place_of : ℕ → Place) (c : Core) (scheme : Scheme) (Stood : (ℕ → ℕ) → State → Type 0) (k spent : ℕ) (m there : Spot) (s : State) (xs : Smalls) → Goes p 1 m there []
-    → Cut p place_of c scheme Stood k (spent + 1) there s xs → Cut p place_of c scheme Stood (suc k) spent m s xs
-cut_later p place_of c scheme Stood k spent m there s xs goes r =
-    let one_more : suc k ≡ 1 + k = omega arith in
-    let sum_is : spent + 1 + k ≡ spent + suc k = omega arith in
+pub cut_later : (p : Program) (place_of : ℕ → Place) (c : Core) (scheme : Scheme) (Stood : machine.State → State → Type 0) (steps k n spent : ℕ) (m there : Spot) (s : State) (xs : Smalls) → Goes p steps m there [] → steps + k ≡ n
+    → Cut p place_of c scheme Stood k (spent + steps) there s xs → Cut p place_of c scheme Stood n spent m s xs
+cut_later p place_of c scheme Stood steps k n spent m there s xs goes sum r =
+    let sum_is : spent + steps + k ≡ spent + n = omega (arith, sum) in
+    let fewer_steps : k ≤ n = omega (arith, sum) in
+    let ended : exec p n (live m) ≡ exec p k (live there) = ap (λ j. exec p j (live m)) (sym sum) ∙ exec_behind p steps k m there [] goes in
     record {
       front = r.front;
       rest = r.rest;
       whole = r.whole;
-      shown = ap (λ j. shown_by p place_of j m) one_more ∙ shown_behind p place_of 1 k m there [] goes ∙ r.shown;
-      stood = subst (λ e. Stood e.store (after s r.front)) (sym (ap (λ j. exec p j (live m)) one_more ∙ exec_behind p 1 k m there [] goes)) r.stood;
+      shown = ap (λ j. shown_by p place_of j m) (sym sum) ∙ shown_behind p place_of steps k m there [] goes ∙ r.shown;
+      stood = subst (λ e. Stood e (after s r.front)) (sym ended) r.stood;
+      near = near_later c k n (smalls_seen c scheme r.front s) s (after s r.front) fewer_steps r.near;
+      on = λ is. r.on (ap (λ e. e.ending) (sym ended) ∙ is);
       within = subst (λ j. IsInProgress j r.rest) sum_is r.within;
     }
 
@@ -71,38 +81,42 @@ unfolding trace.trace trace.writes_next event_next step
 halted_trace p zero s is = refl
 halted_trace p (suc k) s is = (λ i. (trace.writes_at p (is i) s ++ trace.shows (event_at p (is i) s)) ++ trace.trace p k (step_at p (is i) s)) ∙ halted_trace p k s is
 
--- a machine that halts shows nothing
-halting : (p : Program) (place_of : ℕ → Place) (c : Core) (scheme : Scheme) (Stood : (ℕ → ℕ) → State → Type 0) (n spent : ℕ) (m : Spot) (s : State) → Stand p m.pc Halt → Stood m.store s → Cut p place_of c scheme Stood n spent m s []
+-- where no task is next, a machine that halts shows nothing
+pub halting : (p : Program) (place_of : ℕ → Place) (rules : Rules) (scheme : Scheme) (n spent : ℕ) (m : Spot) (s : State) → Stand p m.pc Halt → Lasts p rules scheme (live m) s → task_of rules.core s.task ≡ None
+    → Cut p place_of rules.core scheme (Lasts p rules scheme) n spent m s []
 unfolding exec trace.trace
-halting p place_of c scheme Stood zero spent m s stand stood = record { front = []; rest = []; whole = refl; shown = refl; stood = stood; within = tt }
-halting p place_of c scheme Stood (suc k) spent m s stand stood =
+halting p place_of rules scheme zero spent m s stand stood none = record { front = []; rest = []; whole = refl; shown = refl; stood = stood; near = near_none rules.core s; on = λ is. none; within = tt }
+halting p place_of rules scheme (suc k) spent m s stand stood none =
     let h : machine.State = record (live m) { pc = m.pc + 1; clock = m.clock + 1; ending = Halted } in
     let goes : step p (live m) ≡ h = step_halt p m stand.instr in
     let stays : exec p k (step p (live m)) ≡ h = ap (exec p k) goes ∙ stays_halted p k h refl in
-    let none : trace.seen p (live m) ≡ [] = seen_of p Halt m stand.instr refl ∙ ap (λ sign. trace.shows (event p.values sign Halt (live m))) stand.mark in
+    let nothing_seen : trace.seen p (live m) ≡ [] = seen_of p Halt m stand.instr refl ∙ ap (λ sign. trace.shows (event p.values sign Halt (live m))) stand.mark in
     let silent : trace.trace p k (step p (live m)) ≡ [] = ap (trace.trace p k) goes ∙ halted_trace p k h refl in
+    let stood_there : Lasts p rules scheme h s = stood in
     record {
       front = [];
       rest = [];
       whole = refl;
-      shown = λ i. trace_seen place_of (none i ++ silent i) ++ end_seen (stays i).ending;
-      stood = subst (λ e. Stood e.store s) (sym stays) stood;
+      shown = λ i. trace_seen place_of (nothing_seen i ++ silent i) ++ end_seen (stays i).ending;
+      stood = subst (λ e. Lasts p rules scheme e s) (sym stays) stood_there;
+      near = near_later rules.core 0 (suc k) [] s s (omega arith) (near_none rules.core s);
+      on = λ is. none;
       within = tt;
     }
 
 -- ---- attempts
 
 module _ (p : Program) (place_of : ℕ → Place) (x : Planned) where
-  at_stub : (number : ℕ) (task : CoreTask) (most t : ℕ) (o : Option CoreTask) → StubRuns p place_of x t o
-      → ((u : CoreTask) → LeadsAgain p place_of (doing x t u) (StandsFor x.rules.core x.plan.scheme) HasEpochs most (attempts x most))
-      → (n spent : ℕ) (m : Spot) (w : At) → n < suc most → m.pc ≡ stub_at (length x.rules.core.tasks) t → RelatedNext p (doing x number task) t m w.state → spent < w.weights → HasEpochs n m w.state
-      → Cut p place_of x.rules.core x.plan.scheme (StandsFor x.rules.core x.plan.scheme) n spent m w.state (attempt_if_there x (attempts x most) t o w)
-  at_stub number task most t None stand leads n spent m w soon pc related early holds =
-      halting p place_of x.rules.core x.plan.scheme (StandsFor x.rules.core x.plan.scheme) n spent m w.state (subst (λ a. Stand p a Halt) (sym pc) stand) (λ u is. (related.1 u []).memory.cells)
-  at_stub number task most t (Some u) r leads n spent m w soon pc related early holds = subst (λ acts. Goal n (acts_run (doing x t u) (attempts x most) acts nothing w)) (sym r.planned) (by n soon holds)
+  at_stub : (number : ℕ) (task : CoreTask) (most t : ℕ) (o : Option CoreTask) → task_of x.rules.core t ≡ o → StubRuns p place_of x t o
+      → ((u : CoreTask) → LeadsAgain p place_of (doing x t u) (Lasts p x.rules x.plan.scheme) IsReady most (attempts x most))
+      → (n spent : ℕ) (m : Spot) (w : At) → n < suc most → m.pc ≡ stub_at (length x.rules.core.tasks) t → RelatedNext p (doing x number task) t m w.state → spent < w.weights → IsReady t n m w.state
+      → Cut p place_of x.rules.core x.plan.scheme (Lasts p x.rules x.plan.scheme) n spent m w.state (attempt_if_there x (attempts x most) t o w)
+  at_stub number task most t None none stand leads n spent m w soon pc related early holds =
+      halting p place_of x.rules x.plan.scheme n spent m w.state (subst (λ a. Stand p a Halt) (sym pc) stand) (λ u may. (related.1 u []).memory) (ap (task_of x.rules.core) related.0 ∙ none)
+  at_stub number task most t (Some u) found r leads n spent m w soon pc related early holds = subst (λ acts. Goal n (acts_run (doing x t u) (attempts x most) acts nothing w)) (sym r.planned) (by n soon holds)
     where
       Goal : ℕ → Smalls → Type 0
-      Goal k xs = Cut p place_of x.rules.core x.plan.scheme (StandsFor x.rules.core x.plan.scheme) k spent m w.state xs
+      Goal k xs = Cut p place_of x.rules.core x.plan.scheme (Lasts p x.rules x.plan.scheme) k spent m w.state xs
 
       there : Spot
       there = record m { pc = r.top; clock = m.clock + 1 }
@@ -113,21 +127,22 @@ module _ (p : Program) (place_of : ℕ → Place) (x : Planned) where
       related_there : AreRelated p (doing x t u) false there w.state
       related_there = let is = related.1 u (at_task x.plan.firsts t []) in record { fixed = is.fixed; memory = is.memory }
 
-      first : LeadsFirst p place_of (doing x t u) (StandsFor x.rules.core x.plan.scheme) HasEpochs (suc most) r.top (acts_run (doing x t u) (attempts x most) (attempt r.first r.acts r.exit) nothing)
-      first = attempt_follows p place_of (doing x t u) t (StandsFor x.rules.core x.plan.scheme) HasEpochs most (attempts x most) (leads u) r.first r.acts r.exit r.top r.next r.runs
+      first : LeadsFirst p place_of (doing x t u) (Lasts p x.rules x.plan.scheme) (IsReady t) (suc most) r.top (acts_run (doing x t u) (attempts x most) (attempt r.first r.acts r.exit) nothing)
+      first = attempt_follows p place_of (doing x t u) t (Lasts p x.rules x.plan.scheme) IsReady (GoesWell t u) most (attempts x most) (leads u) r.first r.acts r.exit r.top r.next r.runs
 
       enough : spent + 1 ≤ w.weights
       enough = omega (arith, early)
 
-      by : (k : ℕ) → k < suc most → HasEpochs k m w.state → Goal k (acts_run (doing x t u) (attempts x most) (attempt r.first r.acts r.exit) nothing w)
-      by zero less room = cut_now p place_of x.rules.core x.plan.scheme (StandsFor x.rules.core x.plan.scheme) spent m there w.state _ refl (first 0 (spent + 1) there w less refl related_there enough room)
-      by (suc k) less room =
+      by : (k : ℕ) → k < suc most → IsReady t k m w.state → Goal k (acts_run (doing x t u) (attempts x most) (attempt r.first r.acts r.exit) nothing w)
+      by zero less ready = cut_now p place_of x.rules x.plan.scheme spent r.top (m.clock + 1) m w.state _ (first 0 (spent + 1) there w less refl related_there enough (record { room = ready.room; task = ready.task }))
+      by (suc k) less ready =
           let less_too : k < suc most = omega (arith, less) in
+          let room : w.state.epoch + suc k + 1 < 2 ^ 24 = ready.room in
           let room_too : w.state.epoch + k + 1 < 2 ^ 24 = omega (arith, room) in
-          cut_later p place_of x.rules.core x.plan.scheme (StandsFor x.rules.core x.plan.scheme) k spent m there w.state _ goes (first k (spent + 1) there w less_too refl related_there enough room_too)
+          cut_later p place_of x.rules.core x.plan.scheme (Lasts p x.rules x.plan.scheme) 1 k (suc k) spent m there w.state _ goes (omega arith) (first k (spent + 1) there w less_too refl related_there enough (record { room = room_too; task = ready.task }))
 
-  pub attempts_lead : (number : ℕ) (task : CoreTask) → AllStubsRun p place_of x → (most : ℕ) → LeadsAgain p place_of (doing x number task) (StandsFor x.rules.core x.plan.scheme) HasEpochs most (attempts x most)
+  pub attempts_lead : (number : ℕ) (task : CoreTask) → AllStubsRun p place_of x → (most : ℕ) → LeadsAgain p place_of (doing x number task) (Lasts p x.rules x.plan.scheme) IsReady most (attempts x most)
   attempts_lead number task stubs zero t there n spent m w soon pc related early holds = absurd (omega (arith, soon))
   attempts_lead number task stubs (suc most) t there n spent m w soon pc related early holds =
-      subst (λ k. Cut p place_of x.rules.core x.plan.scheme (StandsFor x.rules.core x.plan.scheme) n spent m w.state (attempt_if_there x (attempts x most) k (task_of x.rules.core k) w)) (sym related.0)
-      (at_stub number task most t (task_of x.rules.core t) (stubs t there) (λ u. attempts_lead t u stubs most) n spent m w soon pc related early holds)
+      subst (λ k. Cut p place_of x.rules.core x.plan.scheme (Lasts p x.rules x.plan.scheme) n spent m w.state (attempt_if_there x (attempts x most) k (task_of x.rules.core k) w)) (sym related.0)
+      (at_stub number task most t (task_of x.rules.core t) refl (stubs t there) (λ u. attempts_lead t u stubs most) n spent m w soon pc related early holds)

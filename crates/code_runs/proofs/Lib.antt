@@ -1,6 +1,13 @@
+pub mod BareActs
+pub mod BareBoots
+pub mod BarePlans
+pub mod Booting
 pub mod Cutting
 pub mod Following
 pub mod InAttempts
 pub mod InRows
 pub mod InStubs
+pub mod Near
 pub mod Splitting
+pub mod Words
+pub mod Writes

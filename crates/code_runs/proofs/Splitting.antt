@@ -13,7 +13,7 @@ use Rattle.run_plan.specs.Runs.{At, Onward, Smalls, after, small_steps, with_sta
 use Rattle.run_plan.specs.Small.{Atom, after_atom, after_shown}
 use Rattle.act_laws.specs.Codes.{Goes}
 use Rattle.act_refines.specs.Seen.{Seen, behind, event_seen, puts, steps_seen, tells, trace_seen, write_seen}
-use Rattle.code_runs.specs.Following.{end_seen, shown_by, smalls_seen}
+use Rattle.code_cuts.specs.Runs.{end_seen, shown_by, smalls_seen}
 
 -- ---- small steps
 

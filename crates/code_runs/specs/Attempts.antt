@@ -3,6 +3,7 @@ use Rattle.std.specs.Prelude.{List, [], ◌∷◌, ◌++◌, ℕ, ◌+◌, nat_l
 use Rattle.devices.specs.Journal.{Place}
 use Rattle.region_split.specs.Regions.{regions}
 use Rattle.task_ast.specs.declared.core_form.CoreExit.{CoreExit}
+use Rattle.word_machine.specs.State as machine
 use Rattle.word_machine.specs.State.{Program}
 use Rattle.word_machine.specs.Straight.{Spot}
 use Rattle.run_plan.specs.declared.act.Act.{Act}
@@ -18,7 +19,7 @@ use Rattle.act_refines.specs.Does.{frame_of}
 use Rattle.code_runs.specs.Following.{ActsRun, LeadsFrom, RunsAt}
 
 -- where an attempt hasn't begun yet
-abbrev pub LeadsFirst : Program → (ℕ → Place) → Doing → (Stood : (ℕ → ℕ) → State → Type 0) → (Holds : ℕ → Spot → State → Type 0) → (most pc : ℕ) → Onward → Type 0
+abbrev pub LeadsFirst : Program → (ℕ → Place) → Doing → (Stood : machine.State → State → Type 0) → (Holds : ℕ → Spot → State → Type 0) → (most pc : ℕ) → Onward → Type 0
 LeadsFirst p place_of d Stood Holds most pc go = LeadsFrom p place_of (core_of d) d.scheme Stood Holds (AreRelated p d false) most pc go
 
 -- of a region that the task has
@@ -27,19 +28,19 @@ IfThere true claim = claim
 IfThere false claim = ⊤
 
 -- the regions of a list are restored, each where its code stands
-abbrev pub RegionsRun : Program → (ℕ → Place) → Doing → (number : ℕ) → (Stood : (ℕ → ℕ) → State → Type 0) → (Holds : ℕ → Spot → State → Type 0) → (rs : List ℕ) → (at next : ℕ) → Type 0
+abbrev pub RegionsRun : Program → (ℕ → Place) → Doing → (number : ℕ) → (Stood : machine.State → State → Type 0) → (Holds : ℕ → Spot → State → Type 0) → (rs : List ℕ) → (at next : ℕ) → Type 0
 RegionsRun p place_of d number Stood Holds [] at next = ⊤
 RegionsRun p place_of d number Stood Holds (r ∷ rs) at next =
     let behind_at = at + act_size (frame_of d number) (act.Restore r) in
-    IfThere (nat_lt r (regions d.setting.task)) (RunsAt p place_of d number Stood Holds (act.Restore r) at behind_at) × RegionsRun p place_of d number Stood Holds rs behind_at next
+    IfThere (nat_lt r (regions d.setting.task)) (RunsAt p place_of d number Stood Holds Holds (act.Restore r) at behind_at) × RegionsRun p place_of d number Stood Holds rs behind_at next
 
 -- the acts of an attempt: its beginning, others, and the act of an exit at the end
 abbrev pub attempt : (task : ℕ) → List Act → CoreExit → List Act
 attempt t acts e = act.Begin t ∷ (acts ++ exit_act e ∷ [])
 
 -- each of them does its act at its place
-abbrev pub AttemptRuns : Program → (ℕ → Place) → Doing → (number : ℕ) → (Stood : (ℕ → ℕ) → State → Type 0) → (Holds : ℕ → Spot → State → Type 0) → (task : ℕ) → List Act → CoreExit → (at next : ℕ) → Type 0
-AttemptRuns p place_of d number Stood Holds t acts e at next =
+abbrev pub AttemptRuns : Program → (ℕ → Place) → Doing → (number : ℕ) → (Stood : machine.State → State → Type 0) → (Ready : ℕ → ℕ → Spot → State → Type 0) → (Holds : ℕ → Spot → State → Type 0) → (task : ℕ) → List Act → CoreExit → (at next : ℕ) → Type 0
+AttemptRuns p place_of d number Stood Ready Holds t acts e at next =
     let rest = acts ++ exit_act e ∷ [] in
     let behind_at = at + act_size (frame_of d number) (act.Begin t) in
-    RunsAt p place_of d number Stood Holds (act.Begin t) at (acts_entry rest behind_at next) × ActsRun p place_of d number Stood Holds rest behind_at next
+    RunsAt p place_of d number Stood (Ready number) Holds (act.Begin t) at (acts_entry rest behind_at next) × ActsRun p place_of d number Stood Ready Holds rest behind_at next

@@ -1,71 +1,38 @@
 -- How the machine's steps follow a plan's small steps: what is seen so far is what some number of them show, cut anywhere.
-use Rattle.std.specs.Prelude.{List, [], ◌∷◌, ◌++◌, ◌≡◌, ℕ, ◌+◌, ◌-◌, ◌<◌, ◌≤◌, ◌⊎◌, ◌^◌, ⊤, Some, true, false, length}
+use Rattle.std.specs.Prelude.{List, [], ◌∷◌, ◌++◌, ◌≡◌, ◌≢◌, ℕ, ◌+◌, ◌-◌, ◌<◌, ◌≤◌, ◌⊎◌, ⊤, true, false, length}
 use Rattle.devices.specs.Journal.{Place, traps}
 use Rattle.task_ast.specs.declared.core_form.Core.{Core}
 use Rattle.task_ast.specs.declared.core_form.CoreTask.{CoreTask}
-use Rattle.task_attempts.specs.Boots.{task_of}
 use Rattle.walk_run.specs.Trap.{code_of}
 use Rattle.word_isa.specs.declared.parts.Scheme.{Scheme}
+use Rattle.word_machine.specs.State as machine
 use Rattle.word_machine.specs.State.{Program}
 use Rattle.word_machine.specs.Step.{exec}
 use Rattle.word_machine.specs.Straight.{Spot, live}
-use Rattle.word_machine.specs.Traces as trace
-use Rattle.word_machine.specs.declared.ending.Ending.{Ending}
-use Rattle.word_machine.specs.declared.ending.Ending.TheVariants.{Running, Halted, Trapped}
+use Rattle.word_machine.specs.declared.ending.Ending.TheVariants.{Halted}
 use Rattle.line_code.specs.Sizes.{expr_size}
 use Rattle.run_plan.specs.declared.act.Act.{Act, Row_of-Act, end_of-Act, more_of-Act}
 use Rattle.run_plan.specs.declared.act.Act.TheVariants as act
 use Rattle.run_plan.specs.Cells.{State}
 use Rattle.run_plan.specs.Deeds.{act_done}
-use Rattle.run_plan.specs.Runs.{At, Onward, Smalls, after}
-use Rattle.run_plan.specs.Small.{Atom, Doing, Done, Way, after_shown, core_of, does, fails, showing, stuck}
+use Rattle.run_plan.specs.Runs.{At, Onward}
+use Rattle.run_plan.specs.Small.{Atom, Doing, Done, Way, core_of, does, fails, showing, stuck}
 use Rattle.run_plan.specs.Weights.{weight}
 use Rattle.word_code.specs.ActCode.{acts_entry, entry}
 use Rattle.word_code.specs.Frames.{site_at, stub_at}
 use Rattle.word_code.specs.Sizes.{act_size, row_size}
 use Rattle.word_code.specs.Tables.{keeps_size}
-use Rattle.cell_laws.specs.Standing.{Stands}
 use Rattle.act_refines.specs.Between.{AreRelated}
 use Rattle.act_refines.specs.Does.{GoesOn, RelatedBehind, frame_of, has_begun, way_at}
-use Rattle.act_refines.specs.Seen.{Seen, behind, event_seen, steps_seen, tells, trace_seen, write_seen}
-
--- ---- what is seen
-
--- what a run's small steps show from a state on, one after another
-abbrev pub smalls_seen : Core → Scheme → Smalls → State → List Seen
-smalls_seen c scheme [] s = []
-smalls_seen c scheme (x ∷ xs) s = write_seen c scheme (after_shown x.atom.event s) x.atom.write ++ event_seen x.atom.event ++ smalls_seen c scheme xs x.after
-
--- a trap is seen as the machine ends
-abbrev pub end_seen : Ending → List Seen
-end_seen Running = []
-end_seen Halted = []
-end_seen (Trapped code) = tells (traps code) ∷ []
-
--- what so many steps of the machine show
-abbrev pub shown_by : Program → (ℕ → Place) → (steps : ℕ) → Spot → List Seen
-shown_by p place_of n m = trace_seen place_of (trace.trace p n (live m)) ++ end_seen (exec p n (live m)).ending
+use Rattle.act_refines.specs.Seen.{behind, steps_seen}
+use Rattle.code_cuts.specs.Lasting.{IsNear}
+use Rattle.code_cuts.specs.Runs.{Cut, shown_by}
 
 -- ---- a run that is cut
 
--- the next small step's act is in progress: so many steps of the boot are fewer than the weights that have begun
-abbrev pub IsInProgress : (steps : ℕ) → (rest : Smalls) → Type 0
-IsInProgress steps [] = ⊤
-IsInProgress steps (x ∷ rest) = steps < x.weights
-
--- Cut behind so many steps, and `spent` steps of the boot before them, the machine has shown just what the small steps of a front
--- of these show, its memory stands for the state behind them, and the act that does the next of them is in progress.
-pub record Cut (p : Program) (place_of : ℕ → Place) (c : Core) (scheme : Scheme) (Stood : (ℕ → ℕ) → State → Type 0) (n spent : ℕ) (m : Spot) (s : State) (xs : Smalls) : Type 0 where
-  pub front : Smalls
-  pub rest : Smalls
-  pub whole : front ++ rest ≡ xs
-  pub shown : shown_by p place_of n m ≡ smalls_seen c scheme front s
-  pub stood : Stood (exec p n (live m)).store (after s front)
-  pub within : IsInProgress (spent + n) rest
-
 -- From an address on, where the machine is related, fewer steps than so many follow what comes there. `Holds` is what is known of
 -- the machine with so many steps to go, and of the plan's state.
-abbrev pub LeadsFrom : Program → (ℕ → Place) → Core → Scheme → (Stood : (ℕ → ℕ) → State → Type 0) → (Holds : ℕ → Spot → State → Type 0) → (Related : Spot → State → Type 0) → (most pc : ℕ) → Onward → Type 0
+abbrev pub LeadsFrom : Program → (ℕ → Place) → Core → Scheme → (Stood : machine.State → State → Type 0) → (Holds : ℕ → Spot → State → Type 0) → (Related : Spot → State → Type 0) → (most pc : ℕ) → Onward → Type 0
 LeadsFrom p place_of c scheme Stood Holds Related most pc go =
     (n spent : ℕ) (m : Spot) (at : At) → n < most → m.pc ≡ pc → Related m at.state → spent ≤ at.weights → Holds n m at.state → Cut p place_of c scheme Stood n spent m at.state (go at)
 
@@ -92,19 +59,22 @@ IsInTime (does atoms change way) n most left = n < most
 IsInTime (fails atoms why) n most left = IfMore left (n < most)
 IsInTime stuck n most left = IfMore left (n < most)
 
--- cut within an act
-pub record Inside (p : Program) (place_of : ℕ → Place) (c : Core) (scheme : Scheme) (Stood : (ℕ → ℕ) → State → Type 0) (n most : ℕ) (m : Spot) (s : State) (done : Done) : Type 0 where
+-- cut within an act, in which no machine halts
+pub record Inside (p : Program) (place_of : ℕ → Place) (c : Core) (scheme : Scheme) (Stood : machine.State → State → Type 0) (n most : ℕ) (m : Spot) (s : State) (done : Done) : Type 0 where
   pub front : List Atom
   pub left : List Atom
   pub whole : front ++ left ≡ atoms_of done
   pub shown : shown_by p place_of n m ≡ steps_seen c scheme front s
-  pub stood : Stood (exec p n (live m)).store (behind c front s)
+  pub stood : Stood (exec p n (live m)) (behind c front s)
+  pub near : IsNear c n (steps_seen c scheme front s) s (behind c front s)
+  pub on : (exec p n (live m)).ending ≢ Halted
   pub in_time : IsInTime done n most left
 
--- or behind it: it has gone its way
+-- or behind it: it has gone its way, and this holds there with so many steps to go
 pub record Passes (p : Program) (place_of : ℕ → Place) (c : Core) (scheme : Scheme) (Holds : ℕ → Spot → State → Type 0) (Related : Spot → State → Type 0) (n most pc : ℕ) (m : Spot) (atoms : List Atom) (s to : State) : Type 0 where
   pub goes : GoesOn p place_of most m pc (steps_seen c scheme atoms s) (λ there. Related there to)
   pub few : goes.steps ≤ n
+  pub near : IsNear c goes.steps (steps_seen c scheme atoms s) s to
   pub holds : Holds (n - goes.steps) goes.there to
 
 abbrev pub PassesBy : Program → (ℕ → Place) → Core → Scheme → (Holds : ℕ → Spot → State → Type 0) → (Related : Spot → State → Type 0) → (n most : ℕ) → (to : Way → ℕ) → Spot → State → Done → Type 0
@@ -114,16 +84,17 @@ PassesBy p place_of c scheme Holds Related n most to m s (fails atoms why) = ⊥
 PassesBy p place_of c scheme Holds Related n most to m s stuck = ⊥
 
 -- An act's code does its act at an address, cut anywhere, in at most so many steps: so many from its top are within it, or it has
--- gone its way.
-abbrev pub RunsIn : Program → (ℕ → Place) → Doing → (number : ℕ) → (Stood : (ℕ → ℕ) → State → Type 0) → (Holds : ℕ → Spot → State → Type 0) → (most : State → ℕ) → Act → (at next : ℕ) → Type 0
-RunsIn p place_of d number Stood Holds most a at next =
-    (n : ℕ) (m : Spot) (s : State) → m.pc ≡ at → AreRelated p d (has_begun a) m s → Holds n m s
+-- gone its way. `Before` is what is known of the machine with so many steps to go, and of the plan's state, and `After` is so behind
+-- the act, whichever way it goes.
+abbrev pub RunsIn : Program → (ℕ → Place) → Doing → (number : ℕ) → (Stood : machine.State → State → Type 0) → (Before After : ℕ → Spot → State → Type 0) → (most : State → ℕ) → Act → (at next : ℕ) → Type 0
+RunsIn p place_of d number Stood Before After most a at next =
+    (n : ℕ) (m : Spot) (s : State) → m.pc ≡ at → AreRelated p d (has_begun a) m s → Before n m s
     → Inside p place_of (core_of d) d.scheme Stood n (most s) m s (act_done d a s)
-    ⊎ PassesBy p place_of (core_of d) d.scheme Holds (RelatedBehind p d a) n (most s) (way_at (frame_of d number) a at next) m s (act_done d a s)
+    ⊎ PassesBy p place_of (core_of d) d.scheme After (RelatedBehind p d a) n (most s) (way_at (frame_of d number) a at next) m s (act_done d a s)
 
 -- within its weight
-abbrev pub RunsAt : Program → (ℕ → Place) → Doing → (number : ℕ) → (Stood : (ℕ → ℕ) → State → Type 0) → (Holds : ℕ → Spot → State → Type 0) → Act → (at next : ℕ) → Type 0
-RunsAt p place_of d number Stood Holds a at next = RunsIn p place_of d number Stood Holds (weight d a) a at next
+abbrev pub RunsAt : Program → (ℕ → Place) → Doing → (number : ℕ) → (Stood : machine.State → State → Type 0) → (Before After : ℕ → Spot → State → Type 0) → Act → (at next : ℕ) → Type 0
+RunsAt p place_of d number Stood Before After a at next = RunsIn p place_of d number Stood Before After (weight d a) a at next
 
 -- a commit leaves a step of its weight to the next task's stub
 abbrev pub commit_most : State → ℕ
@@ -139,61 +110,51 @@ IsWay stuck other = ⊥
 
 abbrev mutual
   -- an act of an attempt that has begun does so at its place, and so does each act of its lists; it commits to a task, or to the end
-  pub ActRuns : Program → (ℕ → Place) → Doing → (number : ℕ) → (Stood : (ℕ → ℕ) → State → Type 0) → (Holds : ℕ → Spot → State → Type 0) → Act → (at next : ℕ) → Type 0
-  ActRuns p place_of d number Stood Holds (act.Restore r) at next = ⊥
-  ActRuns p place_of d number Stood Holds (act.Begin t) at next = ⊥
-  ActRuns p place_of d number Stood Holds (act.Test' c m yes_row n no_row) at next =
+  pub ActRuns : Program → (ℕ → Place) → Doing → (number : ℕ) → (Stood : machine.State → State → Type 0) → (Ready : ℕ → ℕ → Spot → State → Type 0) → (Holds : ℕ → Spot → State → Type 0) → Act → (at next : ℕ) → Type 0
+  ActRuns p place_of d number Stood Ready Holds (act.Restore r) at next = ⊥
+  ActRuns p place_of d number Stood Ready Holds (act.Begin t) at next = ⊥
+  ActRuns p place_of d number Stood Ready Holds (act.Test' c m yes_row n no_row) at next =
       let yes_at = at + expr_size c + 4 in
-      RunsAt p place_of d number Stood Holds (act.Test' c m yes_row n no_row) at next
-      × RowRuns p place_of d number Stood Holds yes_row yes_at next
-      × RowRuns p place_of d number Stood Holds no_row (yes_at + row_size (frame_of d number) yes_row) next
-  ActRuns p place_of d number Stood Holds (act.Choose' k m issue_row n keep_row) at next =
+      RunsAt p place_of d number Stood Holds Holds (act.Test' c m yes_row n no_row) at next
+      × RowRuns p place_of d number Stood Ready Holds yes_row yes_at next
+      × RowRuns p place_of d number Stood Ready Holds no_row (yes_at + row_size (frame_of d number) yes_row) next
+  ActRuns p place_of d number Stood Ready Holds (act.Choose' k m issue_row n keep_row) at next =
       let issue_at = at + keeps_size (site_at (frame_of d number) k) + 3 in
-      RunsAt p place_of d number Stood Holds (act.Choose' k m issue_row n keep_row) at next
-      × RowRuns p place_of d number Stood Holds issue_row issue_at next
-      × RowRuns p place_of d number Stood Holds keep_row (issue_at + row_size (frame_of d number) issue_row) next
-  ActRuns p place_of d number Stood Holds (act.Leave' k m row) at next =
-      RunsAt p place_of d number Stood Holds (act.Leave' k m row) at next
-      × RowRuns p place_of d number Stood Holds row (at + 8) next
-  ActRuns p place_of d number Stood Holds (act.ByClass' k l single_row m private_row n rest_row) at next =
+      RunsAt p place_of d number Stood Holds Holds (act.Choose' k m issue_row n keep_row) at next
+      × RowRuns p place_of d number Stood Ready Holds issue_row issue_at next
+      × RowRuns p place_of d number Stood Ready Holds keep_row (issue_at + row_size (frame_of d number) issue_row) next
+  ActRuns p place_of d number Stood Ready Holds (act.Leave' k m row) at next =
+      RunsAt p place_of d number Stood Holds Holds (act.Leave' k m row) at next
+      × RowRuns p place_of d number Stood Ready Holds row (at + 8) next
+  ActRuns p place_of d number Stood Ready Holds (act.ByClass' k l single_row m private_row n rest_row) at next =
       let private_at = at + 12 + row_size (frame_of d number) single_row in
-      RunsAt p place_of d number Stood Holds (act.ByClass' k l single_row m private_row n rest_row) at next
-      × RowRuns p place_of d number Stood Holds single_row (at + 12) next
-      × RowRuns p place_of d number Stood Holds private_row private_at next
-      × RowRuns p place_of d number Stood Holds rest_row (private_at + row_size (frame_of d number) private_row) next
-  ActRuns p place_of d number Stood Holds (act.Commit t) at next = RunsIn p place_of d number Stood Holds commit_most (act.Commit t) at next × (t ≤ length (core_of d).tasks)
-  ActRuns p place_of d number Stood Holds a at next = RunsAt p place_of d number Stood Holds a at next
+      RunsAt p place_of d number Stood Holds Holds (act.ByClass' k l single_row m private_row n rest_row) at next
+      × RowRuns p place_of d number Stood Ready Holds single_row (at + 12) next
+      × RowRuns p place_of d number Stood Ready Holds private_row private_at next
+      × RowRuns p place_of d number Stood Ready Holds rest_row (private_at + row_size (frame_of d number) private_row) next
+  ActRuns p place_of d number Stood Ready Holds (act.Commit t) at next = RunsIn p place_of d number Stood Holds (Ready t) commit_most (act.Commit t) at next × (t ≤ length (core_of d).tasks)
+  ActRuns p place_of d number Stood Ready Holds a at next = RunsAt p place_of d number Stood Holds Holds a at next
 
   -- those of a row, each where the row has it and before what comes next in it
-  pub RowRuns : Program → (ℕ → Place) → Doing → (number : ℕ) → (Stood : (ℕ → ℕ) → State → Type 0) → (Holds : ℕ → Spot → State → Type 0) → {n : _} → Row_of-Act n → (at next : ℕ) → Type 0
-  RowRuns p place_of d number Stood Holds end_of-Act at next = ⊤
-  RowRuns p place_of d number Stood Holds (more_of-Act a rest) at next =
+  pub RowRuns : Program → (ℕ → Place) → Doing → (number : ℕ) → (Stood : machine.State → State → Type 0) → (Ready : ℕ → ℕ → Spot → State → Type 0) → (Holds : ℕ → Spot → State → Type 0) → {n : _} → Row_of-Act n → (at next : ℕ) → Type 0
+  RowRuns p place_of d number Stood Ready Holds end_of-Act at next = ⊤
+  RowRuns p place_of d number Stood Ready Holds (more_of-Act a rest) at next =
       let behind_at = at + act_size (frame_of d number) a in
-      ActRuns p place_of d number Stood Holds a at (entry rest behind_at next) × RowRuns p place_of d number Stood Holds rest behind_at next
+      ActRuns p place_of d number Stood Ready Holds a at (entry rest behind_at next) × RowRuns p place_of d number Stood Ready Holds rest behind_at next
 
 -- those of acts in a list
-abbrev pub ActsRun : Program → (ℕ → Place) → Doing → (number : ℕ) → (Stood : (ℕ → ℕ) → State → Type 0) → (Holds : ℕ → Spot → State → Type 0) → List Act → (at next : ℕ) → Type 0
-ActsRun p place_of d number Stood Holds [] at next = ⊤
-ActsRun p place_of d number Stood Holds (a ∷ rest) at next =
+abbrev pub ActsRun : Program → (ℕ → Place) → Doing → (number : ℕ) → (Stood : machine.State → State → Type 0) → (Ready : ℕ → ℕ → Spot → State → Type 0) → (Holds : ℕ → Spot → State → Type 0) → List Act → (at next : ℕ) → Type 0
+ActsRun p place_of d number Stood Ready Holds [] at next = ⊤
+ActsRun p place_of d number Stood Ready Holds (a ∷ rest) at next =
     let behind_at = at + act_size (frame_of d number) a in
-    ActRuns p place_of d number Stood Holds a at (acts_entry rest behind_at next) × ActsRun p place_of d number Stood Holds rest behind_at next
+    ActRuns p place_of d number Stood Ready Holds a at (acts_entry rest behind_at next) × ActsRun p place_of d number Stood Ready Holds rest behind_at next
 
 -- what comes at an address where an attempt has begun, and what comes behind a commit to each task
-abbrev pub Leads : Program → (ℕ → Place) → Doing → (Stood : (ℕ → ℕ) → State → Type 0) → (Holds : ℕ → Spot → State → Type 0) → (most pc : ℕ) → Onward → Type 0
+abbrev pub Leads : Program → (ℕ → Place) → Doing → (Stood : machine.State → State → Type 0) → (Holds : ℕ → Spot → State → Type 0) → (most pc : ℕ) → Onward → Type 0
 Leads p place_of d Stood Holds most pc go = LeadsFrom p place_of (core_of d) d.scheme Stood Holds (AreRelated p d true) most pc go
 
-abbrev pub LeadsAgain : Program → (ℕ → Place) → Doing → (Stood : (ℕ → ℕ) → State → Type 0) → (Holds : ℕ → Spot → State → Type 0) → (most : ℕ) → Onward → Type 0
-LeadsAgain p place_of d Stood Holds most again =
+abbrev pub LeadsAgain : Program → (ℕ → Place) → Doing → (Stood : machine.State → State → Type 0) → (Ready : ℕ → ℕ → Spot → State → Type 0) → (most : ℕ) → Onward → Type 0
+LeadsAgain p place_of d Stood Ready most again =
     (t : ℕ) → t ≤ length (core_of d).tasks
-    → (n spent : ℕ) (m : Spot) (at : At) → n < most → m.pc ≡ stub_at (length (core_of d).tasks) t → RelatedNext p d t m at.state → spent < at.weights → Holds n m at.state
+    → (n spent : ℕ) (m : Spot) (at : At) → n < most → m.pc ≡ stub_at (length (core_of d).tasks) t → RelatedNext p d t m at.state → spent < at.weights → Ready t n m at.state
     → Cut p place_of (core_of d) d.scheme Stood n spent m at.state (again at)
-
--- ---- what stands and what holds, of programs without sites
-
--- the words of FRAM stand for the cells, with the records of the running task
-abbrev pub StandsFor : Core → Scheme → (ℕ → ℕ) → State → Type 0
-StandsFor c scheme m s = (t : CoreTask) → task_of c s.task ≡ Some t → Stands c scheme t m s
-
--- so many steps to go don't come to an epoch that the state word has no room for
-abbrev pub HasEpochs : ℕ → Spot → State → Type 0
-HasEpochs n m s = s.epoch + n + 1 < 2 ^ 24

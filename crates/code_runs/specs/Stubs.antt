@@ -13,7 +13,8 @@ use Rattle.run_plan.specs.Runs.{Planned, at_task, doing}
 use Rattle.word_code.specs.Acts.{jump}
 use Rattle.word_code.specs.Frames.{stub_at}
 use Rattle.code_runs.specs.Attempts.{AttemptRuns, attempt}
-use Rattle.code_runs.specs.Following.{HasEpochs, StandsFor}
+use Rattle.code_cuts.specs.Lasting.{Lasts}
+use Rattle.code_runs.specs.Claims.{GoesWell, IsReady}
 
 -- a task's stub jumps to its attempt, each act of which does its act at its place
 pub record TaskRuns (p : Program) (place_of : ℕ → Place) (x : Planned) (number : ℕ) (t : CoreTask) : Type 0 where
@@ -24,7 +25,7 @@ pub record TaskRuns (p : Program) (place_of : ℕ → Place) (x : Planned) (numb
   pub next : ℕ
   pub planned : at_task x.plan.tasks number [] ≡ attempt first acts exit
   pub stub : Lie p (stub_at (length x.rules.core.tasks) number) (jump top)
-  pub runs : AttemptRuns p place_of (doing x number t) number (StandsFor x.rules.core x.plan.scheme) HasEpochs first acts exit top next
+  pub runs : AttemptRuns p place_of (doing x number t) number (Lasts p x.rules x.plan.scheme) IsReady (GoesWell number t) first acts exit top next
 
 -- where there is no task, the machine halts
 abbrev pub StubRuns : Program → (ℕ → Place) → Planned → (number : ℕ) → Option CoreTask → Type 0

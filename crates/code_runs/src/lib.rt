@@ -2,9 +2,11 @@
 #![tactic(auto)]
 
 mod attempts;
+mod boots;
 mod rows;
 
 pub use attempts::{
     a_boot_restores_as_planned, an_attempt_runs_as_planned, attempts_run_as_planned,
 };
+pub use boots::probe;
 pub use rows::{acts_in_a_row_run_as_planned, an_act_runs_at_its_place};

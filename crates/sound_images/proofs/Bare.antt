@@ -29,7 +29,7 @@ use Rattle.sound_images.specs.Sound.{HasNoSites}
 
 -- ---- the events of such a program
 
-abbrev IsPlain : JournalEvent → Type 0
+abbrev pub IsPlain : JournalEvent → Type 0
 IsPlain (begins task) = Unit {0}
 IsPlain (looks k t) = ⊥
 IsPlain (keeps k value) = ⊥

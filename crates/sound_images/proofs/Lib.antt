@@ -1,3 +1,5 @@
 pub mod Bare
+pub mod States
 pub mod Tells
 pub mod Unmarked
+pub mod Whole

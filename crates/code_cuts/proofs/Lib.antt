@@ -1,0 +1,11 @@
+pub mod Calls
+pub mod Commits
+pub mod Cutting
+pub mod Fitting
+pub mod Memories
+pub mod Moves
+pub mod Seals
+pub mod Simple
+pub mod Splitting
+pub mod Steps
+pub mod Transfers

@@ -1,0 +1,8 @@
+-- By the fronts of its small steps.
+use Rattle.run_plan.specs.declared.act.Act.TheBlock.{shape-the_row-Act-0, hidden-the_row-Act-0}
+use Rattle.code_cuts.proofs.Calls.{by_class_cuts}
+use Rattle.code_cuts.proofs.sites.a_copy_by_its_class_is_cut_well.Goals as goal
+
+pub returns : goal.returns
+returns g = λ p place_of d number keeps k single private rest.
+    by_class_cuts (λ q e begun m counts s w. g.a_write_keeps_memory.ensures q e begun m counts s w) (λ q e m n counts s. g.same_fram_keeps_cells.ensures q e m n counts s) p place_of d number keeps k (shape-the_row-Act-0 single) (hidden-the_row-Act-0 single) (shape-the_row-Act-0 private) (hidden-the_row-Act-0 private) (shape-the_row-Act-0 rest) (hidden-the_row-Act-0 rest)
