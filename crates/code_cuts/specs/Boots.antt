@@ -1,5 +1,5 @@
 -- What it means that a machine's code runs a plan, boot by boot.
-use Rattle.std.specs.Prelude.{List, [], ◌∷◌, ◌++◌, ◌≡◌, ℕ, suc, ◌+◌, ◌<◌, ◌≤◌, ◌^◌, length, Some}
+use Rattle.std.specs.Prelude.{List, [], ◌∷◌, ◌++◌, ◌≡◌, ℕ, ◌+◌, ◌<◌, ◌≤◌, ◌^◌, length, Some}
 use Rattle.devices.specs.declared.event.Event.TheVariants as event
 use Rattle.devices.specs.Journal.{JournalEvent, Place, begins, looks, keeps, drops, issues, seals, copies, commits, traps}
 use Rattle.word_machine.specs.Events.{event_next}
@@ -42,12 +42,13 @@ pub record IsBooted (p : Program) (place_of : ℕ → Place) (x : Planned) (n : 
   pub lasts : Lasts p x.rules x.plan.scheme (live m) s
   pub next : s.task ≤ length x.rules.core.tasks
   pub room : s.epoch + n + 1 < 2 ^ 24
+  pub ticks : m.clock + n < 2 ^ 32
   pub due : AreDue p place_of n m s.looks
 
--- then it follows the plan's boot, cut anywhere
+-- then it follows the plan's boot, cut anywhere, of more attempts than it has steps
 abbrev pub BootsRun : Program → (ℕ → Place) → Planned → Type 0
 BootsRun p place_of x =
-    (n : ℕ) (m : Spot) (s : State) → IsBooted p place_of x n m s → Cut p place_of x.rules.core x.plan.scheme (Lasts p x.rules x.plan.scheme) n 0 m s (boot_run x (suc n) s)
+    (n many : ℕ) (m : Spot) (s : State) → n < many → IsBooted p place_of x n m s → Cut p place_of x.rules.core x.plan.scheme (Lasts p x.rules x.plan.scheme) n 0 m s (boot_run x many s)
 
 -- A machine's code runs a plan: each of its boots follows the plan's; a boot that finds no task halts within 64 steps; and so does
 -- a machine that shows the commit behind which none is next, 33 steps from there.

@@ -46,6 +46,6 @@ pub record Cut (p : Program) (place_of : ℕ → Place) (c : Core) (scheme : Sch
   pub whole : front ++ rest ≡ xs
   pub shown : shown_by p place_of n m ≡ smalls_seen c scheme front s
   pub stood : Stood (exec p n (live m)) (after s front)
-  pub near : IsNear c n (smalls_seen c scheme front s) s (after s front)
+  pub near : IsNear c scheme n (smalls_seen c scheme front s) s (after s front)
   pub on : (exec p n (live m)).ending ≡ Halted → task_of c (after s front).task ≡ None
   pub within : IsInProgress (spent + n) rest

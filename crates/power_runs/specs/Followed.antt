@@ -1,5 +1,5 @@
 -- A machine's run over power rows that follows a plan's run: each boot, cut behind any of its steps.
-use Rattle.std.specs.Prelude.{List, [], ◌∷◌, ◌≡◌, ℕ, suc, ◌+◌, ◌<◌, ⊤}
+use Rattle.std.specs.Prelude.{List, [], ◌∷◌, ◌≡◌, ℕ, suc, ◌+◌, ◌<◌, ◌≤◌, ⊤}
 use Rattle.devices.specs.declared.world.PowerRow.{PowerRow}
 use Rattle.devices.specs.Journal.{Place}
 use Rattle.fram_ram.specs.Memories.{failed}
@@ -21,7 +21,7 @@ begun_again row e = record { pc = 0; regs = all_registers row.fill; store = fail
 -- A boot of so many steps from a state of the plan: the machine follows the plan's boot behind each of them, and at the end, where
 -- it still goes on, `Rest` holds of what the plan has come to.
 pub record BootFollows (p : Program) (place_of : ℕ → Place) (x : Planned) (most : ℕ) (m : Spot) (s : State) (Rest : State → Type 0) : Type 0 where
-  pub cuts : (n : ℕ) → n < most → Cut p place_of x.rules.core x.plan.scheme (Lasts p x.rules x.plan.scheme) n 0 m s (boot_run x (suc n) s)
+  pub cuts : (n many : ℕ) → n ≤ most → n < many → Cut p place_of x.rules.core x.plan.scheme (Lasts p x.rules x.plan.scheme) n 0 m s (boot_run x many s)
   pub last : Cut p place_of x.rules.core x.plan.scheme (Lasts p x.rules x.plan.scheme) most 0 m s (boot_run x (suc most) s)
   pub rest : (exec p most (live m)).ending ≡ Running → Rest (after s last.front)
 
