@@ -55,66 +55,66 @@ module _ (keep : WritesKeep) (fram : FramKeeps) (p : Program) (place_of : ℕ �
   -- ---- values
 
   pub call_value_cuts : (k i q : ℕ) (target : Option CoreTarget) (es : List CoreExpr) → statement_of d k ≡ Some (stmt.Io i target q es) → CutsAct p place_of d number keeps (act.Value k) Nothing
-  call_value_cuts k i q target es plan next m s well has related runs asks =
-      let none : Whole p place_of d m s [] = ones_cut keep fram p place_of d true m s well related runs [] tt tt in
+  call_value_cuts k i q target es plan next m s well has related runs follows asks =
+      let none : Whole p place_of d m s [] = ones_cut keep fram p place_of d true m s well related runs follows [] tt tt in
       subst (λ o. Cuts p place_of d m s (value_done d.setting o s)) (sym plan)
-      (valued_cuts p place_of d m s (target_found target s.store) _ none (λ at. valued_cuts p place_of d m s (all_values es s.store) _ none (λ words. (none, record { epoch = refl; task = refl; looks = refl }))))
+      (valued_cuts p place_of d m s (target_found target s.store) _ none (λ at. valued_cuts p place_of d m s (all_values es s.store) _ none (λ words. (none, record { epoch = refl; task = refl; bank = refl; looks = refl; cells = refl }))))
 
   pub copy_value_cuts : (k i : ℕ) (to from : CoreEnd) (words : CoreExpr) → statement_of d k ≡ Some (stmt.Copy i to from words) → CutsAct p place_of d number keeps (act.Value k) Nothing
-  copy_value_cuts k i to from words plan next m s well has related runs asks =
-      let none : Whole p place_of d m s [] = ones_cut keep fram p place_of d true m s well related runs [] tt tt in
+  copy_value_cuts k i to from words plan next m s well has related runs follows asks =
+      let none : Whole p place_of d m s [] = ones_cut keep fram p place_of d true m s well related runs follows [] tt tt in
       subst (λ o. Cuts p place_of d m s (value_done d.setting o s)) (sym plan)
-      (valued_cuts p place_of d m s (copy_found d.setting to from words s.store) _ none (λ v. (none, record { epoch = refl; task = refl; looks = refl })))
+      (valued_cuts p place_of d m s (copy_found d.setting to from words s.store) _ none (λ v. (none, record { epoch = refl; task = refl; bank = refl; looks = refl; cells = refl })))
 
   -- ---- looks and choices
 
   pub look_cuts : (k : ℕ) → CutsAct p place_of d number keeps (act.Look k) Nothing
-  look_cuts k next m s well has related runs asks =
-      (ones_cut keep fram p place_of d true m s well related runs (showing (journal.looks k (next_look s.looks)) ∷ []) (tt, tt, tt) (tt, tt), record { epoch = refl; task = refl; looks = refl })
+  look_cuts k next m s well has related runs follows asks =
+      (ones_cut keep fram p place_of d true m s well related runs follows (showing (journal.looks k (next_look s.looks)) ∷ []) (tt, tt, tt) (tt, tt), record { epoch = refl; task = refl; bank = refl; looks = refl; cells = refl })
 
   pub choose_call_cuts : (k : ℕ) (ann : Ann) (n : _) (issue_row : _) (j : _) (keep_row : _) → IsSite k → slice_get d.setting.task.sites (k - 1) ≡ Some (site.Io ann) → CutsAct p place_of d number keeps (act.Choose' k n issue_row j keep_row) IsTimed
-  choose_call_cuts k ann n issue_row j keep_row here is next m s well has related runs asks =
+  choose_call_cuts k ann n issue_row j keep_row here is next m s well has related runs follows asks =
       subst (λ o. Cuts p place_of d m s (choose_done o k s)) (sym (at_site d.setting.task.sites k here ∙ is)) (by_mode s.frame.mode refl)
     where
       by_time : (o : Mode) (u : Option ℕ) → s.frame.time ≡ u → Cuts p place_of d m s (have u (λ t. does [] same (by_choice (choice o ann (reading_held s k) t))))
       by_time o None two = absurd (asks.time two)
-      by_time o (Some t) two = (ones_cut keep fram p place_of d true m s well related runs [] tt tt, record { epoch = refl; task = refl; looks = refl })
+      by_time o (Some t) two = (ones_cut keep fram p place_of d true m s well related runs follows [] tt tt, record { epoch = refl; task = refl; bank = refl; looks = refl; cells = refl })
 
       by_mode : (o : Option Mode) → s.frame.mode ≡ o → Cuts p place_of d m s (have o (λ m. have s.frame.time (λ t. does [] same (by_choice (choice m ann (reading_held s k) t)))))
       by_mode None one = absurd (asks.mode one)
       by_mode (Some o) one = by_time o s.frame.time refl
 
   pub choose_copy_cuts : (k most : ℕ) (n : _) (issue_row : _) (j : _) (keep_row : _) → IsSite k → slice_get d.setting.task.sites (k - 1) ≡ Some (site.Copy most) → CutsAct p place_of d number keeps (act.Choose' k n issue_row j keep_row) Nothing
-  choose_copy_cuts k most n issue_row j keep_row here is next m s well has related runs asks =
+  choose_copy_cuts k most n issue_row j keep_row here is next m s well has related runs follows asks =
       subst (λ o. Cuts p place_of d m s (choose_done o k s)) (sym (at_site d.setting.task.sites k here ∙ is))
-      (ones_cut keep fram p place_of d true m s well related runs [] tt tt, record { epoch = refl; task = refl; looks = refl })
+      (ones_cut keep fram p place_of d true m s well related runs follows [] tt tt, record { epoch = refl; task = refl; bank = refl; looks = refl; cells = refl })
 
   pub by_class_cuts : (k : ℕ) (l : _) (single_row : _) (n : _) (private_row : _) (j : _) (rest_row : _) → CutsAct p place_of d number keeps (act.ByClass' k l single_row n private_row j rest_row) (HasClass k)
-  by_class_cuts k l single_row n private_row j rest_row next m s well has related runs asks = by_found (class_now s k) refl
+  by_class_cuts k l single_row n private_row j rest_row next m s well has related runs follows asks = by_found (class_now s k) refl
     where
       by_found : (o : Option DmaClass) → class_now s k ≡ o → Cuts p place_of d m s (have o (λ c. does [] same (by_class c)))
       by_found None one = absurd (asks one)
-      by_found (Some c) one = (ones_cut keep fram p place_of d true m s well related runs [] tt tt, record { epoch = refl; task = refl; looks = refl })
+      by_found (Some c) one = (ones_cut keep fram p place_of d true m s well related runs follows [] tt tt, record { epoch = refl; task = refl; bank = refl; looks = refl; cells = refl })
 
   -- ---- blocks
 
   pub enter_cuts : (k : ℕ) → CutsAct p place_of d number keeps (act.Enter k) IsTimed
-  enter_cuts k next m s well has related runs asks = by_mode s.frame.mode refl
+  enter_cuts k next m s well has related runs follows asks = by_mode s.frame.mode refl
     where
       by_time : (o : Mode) (u : Option ℕ) → s.frame.time ≡ u → Cuts p place_of d m s (have u (λ t. sets_frame (entering d k s o t)))
       by_time o None two = absurd (asks.time two)
-      by_time o (Some t) two = (ones_cut keep fram p place_of d true m s well related runs [] tt tt, record { epoch = refl; task = refl; looks = refl })
+      by_time o (Some t) two = (ones_cut keep fram p place_of d true m s well related runs follows [] tt tt, record { epoch = refl; task = refl; bank = refl; looks = refl; cells = refl })
 
       by_mode : (o : Option Mode) → s.frame.mode ≡ o → Cuts p place_of d m s (have o (λ o. have s.frame.time (λ t. sets_frame (entering d k s o t))))
       by_mode None one = absurd (asks.mode one)
       by_mode (Some o) one = by_time o s.frame.time refl
 
   pub leave_cuts : (k : ℕ) (n : _) (row : _) → CutsAct p place_of d number keeps (act.Leave' k n row) (IsInside k)
-  leave_cuts k n row next m s well has related runs asks = by_mode s.frame.mode refl
+  leave_cuts k n row next m s well has related runs follows asks = by_mode s.frame.mode refl
     where
       by_outer : (inside : Mode) (u : Option Mode) → s.frame.outer k ≡ u → Cuts p place_of d m s (have u (λ o. does [] (λ after. record after { frame = record s.frame { mode = Some o } }) (leaving inside)))
       by_outer inside None two = absurd (asks.outer two)
-      by_outer inside (Some o) two = (ones_cut keep fram p place_of d true m s well related runs [] tt tt, record { epoch = refl; task = refl; looks = refl })
+      by_outer inside (Some o) two = (ones_cut keep fram p place_of d true m s well related runs follows [] tt tt, record { epoch = refl; task = refl; bank = refl; looks = refl; cells = refl })
 
       by_mode : (o : Option Mode) → s.frame.mode ≡ o → Cuts p place_of d m s (have o (λ inside. have (s.frame.outer k) (λ o. does [] (λ after. record after { frame = record s.frame { mode = Some o } }) (leaving inside))))
       by_mode None one = absurd (asks.mode one)
@@ -123,22 +123,22 @@ module _ (keep : WritesKeep) (fram : FramKeeps) (p : Program) (place_of : ℕ �
   -- ---- words
 
   pub issue_cuts : (k i q : ℕ) (target : Option CoreTarget) (es : List CoreExpr) → statement_of d k ≡ Some (stmt.Io i target q es) → CutsAct p place_of d number keeps (act.Issue k) HasArguments
-  issue_cuts k i q target es plan next m s well has related runs asks =
+  issue_cuts k i q target es plan next m s well has related runs follows asks =
       subst (λ o. Cuts p place_of d m s (issue_done d.setting o k s)) (sym plan) (by_args s.frame.args refl)
     where
       by_args : (o : Option (List ℕ)) → s.frame.args ≡ o
           → Cuts p place_of d m s (have o (λ words. does (showing (journal.issues k (number_of d.setting q) words (reading_next d q s)) ∷ []) (λ after. record after { frame = record s.frame { word = Some (reading_next d q s) } }) ahead))
       by_args None is = absurd (asks is)
       by_args (Some words) is =
-          (ones_cut keep fram p place_of d true m s well related runs (showing (journal.issues k (number_of d.setting q) words (reading_next d q s)) ∷ []) (tt, tt, tt) (tt, tt), record { epoch = refl; task = refl; looks = refl })
+          (ones_cut keep fram p place_of d true m s well related runs follows (showing (journal.issues k (number_of d.setting q) words (reading_next d q s)) ∷ []) (tt, tt, tt) (tt, tt), record { epoch = refl; task = refl; bank = refl; looks = refl; cells = refl })
 
   pub take_cuts : (k : ℕ) → CutsAct p place_of d number keeps (act.Take k) Nothing
-  take_cuts k next m s well has related runs asks =
-      (ones_cut keep fram p place_of d true m s well related runs (showing (journal.keeps k (s.cells.value k)) ∷ []) (tt, tt, tt) (tt, tt), record { epoch = refl; task = refl; looks = refl })
+  take_cuts k next m s well has related runs follows asks =
+      (ones_cut keep fram p place_of d true m s well related runs follows (showing (journal.keeps k (s.cells.value k)) ∷ []) (tt, tt, tt) (tt, tt), record { epoch = refl; task = refl; bank = refl; looks = refl; cells = refl })
 
   -- a word goes to the target, if there is one
   pub write_cuts : (k : ℕ) → CutsAct p place_of d number keeps (act.Write k) HasAimed
-  write_cuts k next m s well has related runs asks = by_target s.frame.target refl
+  write_cuts k next m s well has related runs follows asks = by_target s.frame.target refl
     where
       by_word : (at : Place) → s.frame.target ≡ Some (Some at) → (u : Option ℕ) → s.frame.word ≡ u → Cuts p place_of d m s (have u (λ word. words_put (core_of d) (sets at word ∷ []) (put_word at word s.store)))
       by_word at one None two = absurd (asks.word at one two)
@@ -146,12 +146,12 @@ module _ (keep : WritesKeep) (fram : FramKeeps) (p : Program) (place_of : ℕ �
           let aim : ram.HasTarget (core_of d) (worked d.scheme s.bank) m.store at = related.memory.ram.frame.target at one in
           let word : ram.HasWord m.store 1048614 w = related.memory.ram.frame.word w two in
           let writes : List Write = sets at w ∷ [] in (
-            ones_cut keep fram p place_of d true m s well related runs (map silent (home_writes (core_of d) writes))
-                (writes_fit keep p d m.issued well writes m.store s ((record { inside = aim.inside; written = aim.written }, word.fits), tt) (cells_alone p d true m.store m.issued s related.memory)) (silent_ones (home_writes (core_of d) writes)),
-            record { epoch = refl; task = refl; looks = refl },
+            ones_cut keep fram p place_of d true m s well related runs follows (map silent (home_writes (core_of d) writes))
+                (writes_fit keep p d m.clock m.issued well writes m.store s ((record { inside = aim.inside; written = aim.written }, word.fits), tt) (cells_alone p d true m.store m.issued s related.memory)) (silent_ones (home_writes (core_of d) writes)),
+            record { epoch = refl; task = refl; bank = refl; looks = refl; cells = refl },
           )
 
       by_target : (o : Option (Option Place)) → s.frame.target ≡ o → Cuts p place_of d m s (have o (λ target. write_done (core_of d) target s))
       by_target None one = absurd (asks.target one)
-      by_target (Some None) one = (ones_cut keep fram p place_of d true m s well related runs [] tt tt, record { epoch = refl; task = refl; looks = refl })
+      by_target (Some None) one = (ones_cut keep fram p place_of d true m s well related runs follows [] tt tt, record { epoch = refl; task = refl; bank = refl; looks = refl; cells = refl })
       by_target (Some (Some at)) one = by_word at one s.frame.word refl

@@ -38,8 +38,9 @@ use Rattle.act_refines.proofs.Going.{goes_on, related_at}
 use Rattle.act_refines.proofs.Simple.{WritesKeep}
 use Rattle.act_refines.proofs.Statements.{FramKeeps}
 use Rattle.code_cuts.specs.Acts.{AreWhole, CommitsEarly, CutsAct, IsRunning, IsThrough, SoFar}
-use Rattle.code_cuts.specs.Lasting.{Lasts, doing_of}
+use Rattle.code_cuts.specs.Lasting.{Lasts, MayFollow, doing_of}
 use Rattle.code_cuts.proofs.Cutting.{front_lasts, front_near}
+use Rattle.code_cuts.proofs.Following.{clock_stays}
 use Rattle.code_cuts.proofs.Memories.{counts_behind, fram_behind}
 use Rattle.code_cuts.proofs.Steps.{steps_over}
 
@@ -78,6 +79,10 @@ same_looks : (b : Bool) (arrays : List Array) (s : State) → (turned b arrays s
 same_looks true arrays s = refl
 same_looks false arrays s = refl
 
+same_cells : (b : Bool) (arrays : List Array) (s : State) → (turned b arrays s).cells ≡ s.cells
+same_cells true arrays s = refl
+same_cells false arrays s = refl
+
 -- ---- the act
 
 module _ (keep : WritesKeep) (fram : FramKeeps) (p : Program) (place_of : ℕ → Place) (d : Doing) (number task : ℕ) (m : Spot) (s : State) (well : IsWellFormed (core_of d)) (related : AreRelated p d true m s) (to : ℕ) where
@@ -104,32 +109,43 @@ module _ (keep : WritesKeep) (fram : FramKeeps) (p : Program) (place_of : ℕ �
       subst (λ k. MemoryStands p e false (put m.store 0 (state_word (s.epoch + 1) task (next_bank d.scheme s.bank))) k committed) counts
       (fram p e g.there.store (put m.store 0 (state_word (s.epoch + 1) task (next_bank d.scheme s.bank))) g.there.issued committed well h.memory words)
 
-  -- and wherever its word and event are seen
-  through : GoesOn p place_of 32 m to seen (λ there. RelatedBehind p d (act.Commit task) there committed) → task ≤ length (core_of d).tasks → (n : ℕ) → trace_seen place_of (trace.trace p n (live m)) ≡ seen → IsThrough p (core_of d) d.scheme (Lasts p d.setting.rules d.scheme) n m s atoms
-  through g low n is =
-      let some : 1 ≤ n = some_steps p place_of n m _ _ is in
+  -- no record holds behind it, as no flag is of a later epoch, and no stamp is of the future
+  follows_behind : MayFollow d m.clock s → (t : CoreTask) (n : ℕ) → MayFollow (doing_of d.setting.rules d.scheme t) (exec p n (live m)).clock committed
+  follows_behind follows t n =
+      let cells : committed.cells ≡ s.cells = same_cells (next_bank d.scheme s.bank == s.bank) (core_of d).arrays s in
       record {
-        stood = λ t may.
-            subst (λ k. MemoryStands p (doing_of d.setting.rules d.scheme t) false (exec p n (live m)).store k committed) (sym (counts_behind p place_of n m seen is))
-            (fram p (doing_of d.setting.rules d.scheme t) (put m.store 0 (state_word (s.epoch + 1) task (next_bank d.scheme s.bank))) (exec p n (live m)).store m.issued committed well (memory_behind g t) (fram_behind p place_of n m seen is));
-        near = record { epoch = omega (arith, some); task = refl; looks = same_looks (next_bank d.scheme s.bank == s.bank) (core_of d).arrays s; there = λ there. low };
+        records = λ k here is. absurd (omega (arith, ap (λ x. x.flag k) cells, is, related.memory.tidy.flags k here));
+        past = λ k. omega (arith, ap (λ x. x.stamp k) cells, follows.past k, clock_stays p n (live m));
       }
 
-  so_far : GoesOn p place_of 32 m to seen (λ there. RelatedBehind p d (act.Commit task) there committed) → task ≤ length (core_of d).tasks → IsRunning d s → ((n : ℕ) → length (trace_seen place_of (trace.trace p n (live m))) ≢ 1)
+  -- and wherever its word and event are seen
+  through : GoesOn p place_of 32 m to seen (λ there. RelatedBehind p d (act.Commit task) there committed) → MayFollow d m.clock s → task ≤ length (core_of d).tasks → (n : ℕ) → trace_seen place_of (trace.trace p n (live m)) ≡ seen → IsThrough p (core_of d) d.scheme (Lasts p d.setting.rules d.scheme) n m s atoms
+  through g follows low n is =
+      let some : 1 ≤ n = some_steps p place_of n m _ _ is in
+      record {
+        stood = λ t may. record {
+          memory = subst (λ k. MemoryStands p (doing_of d.setting.rules d.scheme t) false (exec p n (live m)).store k committed) (sym (counts_behind p place_of n m seen is))
+              (fram p (doing_of d.setting.rules d.scheme t) (put m.store 0 (state_word (s.epoch + 1) task (next_bank d.scheme s.bank))) (exec p n (live m)).store m.issued committed well (memory_behind g t) (fram_behind p place_of n m seen is));
+          follows = follows_behind follows t n;
+        };
+        near = record { epoch = omega (arith, some); task = refl; bank = refl; looks = same_looks (next_bank d.scheme s.bank == s.bank) (core_of d).arrays s; there = λ there. low };
+      }
+
+  so_far : GoesOn p place_of 32 m to seen (λ there. RelatedBehind p d (act.Commit task) there committed) → MayFollow d m.clock s → task ≤ length (core_of d).tasks → IsRunning d s → ((n : ℕ) → length (trace_seen place_of (trace.trace p n (live m))) ≢ 1)
       → (n : ℕ) (xs : List Seen) → trace_seen place_of (trace.trace p n (live m)) ≡ xs → IsFront xs seen → SoFar p place_of (core_of d) d.scheme (Lasts p d.setting.rules d.scheme) n m s atoms
-  so_far g low runs over n [] is h =
-      record { front = []; left = atoms; whole = refl; shown = is; stood = front_lasts keep fram p place_of d true m s well related runs [] n tt is; near = front_near keep fram p place_of d true m s well related runs [] n tt }
-  so_far g low runs over n (x ∷ []) is h = absurd (over n (ap length is))
-  so_far g low runs over n (x ∷ y ∷ xs) is h =
+  so_far g follows low runs over n [] is h =
+      record { front = []; left = atoms; whole = refl; shown = is; stood = front_lasts keep fram p place_of d true m s well related runs follows [] n tt is; near = front_near keep fram p place_of d true m s well related runs follows [] n tt }
+  so_far g follows low runs over n (x ∷ []) is h = absurd (over n (ap length is))
+  so_far g follows low runs over n (x ∷ y ∷ xs) is h =
       let shown : trace_seen place_of (trace.trace p n (live m)) ≡ seen = is ∙ two_seen x y _ _ xs h.rest h.joined in
-      let whole : IsThrough p (core_of d) d.scheme (Lasts p d.setting.rules d.scheme) n m s atoms = through g low n shown in
+      let whole : IsThrough p (core_of d) d.scheme (Lasts p d.setting.rules d.scheme) n m s atoms = through g follows low n shown in
       record { front = atoms; left = []; whole = refl; shown = shown; stood = whole.stood; near = whole.near }
 
-  whole_commit : GoesOn p place_of 32 m to seen (λ there. RelatedBehind p d (act.Commit task) there committed) → task ≤ length (core_of d).tasks → IsRunning d s → ((n : ℕ) → length (trace_seen place_of (trace.trace p n (live m))) ≢ 1)
+  whole_commit : GoesOn p place_of 32 m to seen (λ there. RelatedBehind p d (act.Commit task) there committed) → MayFollow d m.clock s → task ≤ length (core_of d).tasks → IsRunning d s → ((n : ℕ) → length (trace_seen place_of (trace.trace p n (live m))) ≢ 1)
       → AreWhole p place_of (core_of d) d.scheme (Lasts p d.setting.rules d.scheme) m s atoms
-  whole_commit g low runs over = record {
-    fronts = λ n h. so_far g low runs over n (trace_seen place_of (trace.trace p n (live m))) refl h;
-    last = λ n is. through g low n is;
+  whole_commit g follows low runs over = record {
+    fronts = λ n h. so_far g follows low runs over n (trace_seen place_of (trace.trace p n (live m))) refl h;
+    last = λ n is. through g follows low n is;
   }
 
 abbrev CommitIsDone : Type 0
@@ -137,10 +153,10 @@ CommitIsDone = (p : Program) (place_of : ℕ → Place) (d : Doing) (number : �
 
 pub commit_cuts : WritesKeep → FramKeeps → CommitIsDone
     → (p : Program) (place_of : ℕ → Place) (d : Doing) (number : ℕ) (keeps : Bool) (task : ℕ) → task < 128 → task ≤ length (core_of d).tasks → CutsAct p place_of d number keeps (act.Commit task) MayCommit
-commit_cuts keep fram done p place_of d number keeps task few low next m s well has related runs early =
+commit_cuts keep fram done p place_of d number keeps task few low next m s well has related runs follows early =
     let to : ℕ = stub_at (length (core_of d).tasks) task in (
-      whole_commit keep fram p place_of d number task m s well related to (done p place_of d number keeps task few next m s well has related early) low runs (commit_over p place_of (fixed_in d.scheme s) (frame_of d number) task to m related.fixed has),
-      record { epoch = refl; task = refl; looks = refl },
+      whole_commit keep fram p place_of d number task m s well related to (done p place_of d number keeps task few next m s well has related early) follows low runs (commit_over p place_of (fixed_in d.scheme s) (frame_of d number) task to m related.fixed has),
+      record { epoch = refl; task = refl; bank = refl; looks = refl; cells = refl },
     )
 
 -- ---- its steps

@@ -2,6 +2,7 @@ pub mod Calls
 pub mod Commits
 pub mod Cutting
 pub mod Fitting
+pub mod Following
 pub mod Memories
 pub mod Moves
 pub mod Seals

@@ -48,6 +48,7 @@ use Rattle.act_refines.proofs.Simple.{WritesKeep}
 use Rattle.act_refines.proofs.Statements.{AreasLie, FramKeeps, SuitsThere}
 use Rattle.code_cuts.specs.Acts.{CutsAct, IsRunning}
 use Rattle.code_cuts.specs.Asked.{KeepsCopy, MovesCopy, PutsCopy}
+use Rattle.code_cuts.specs.Lasting.{MayFollow}
 use Rattle.code_cuts.proofs.Cutting.{Cuts, Whole, cells_alone, last_cut, ones_cut}
 use Rattle.code_cuts.proofs.Fitting.{AllFit}
 use Rattle.code_cuts.proofs.Memories.{fram_is}
@@ -57,10 +58,10 @@ use Rattle.code_cuts.proofs.Transfers.{AllFram, transfer_over}
 
 -- ---- the last write shows the copy
 
-last_fit : (d : Doing) (m : ℕ → ℕ) (k n : ℕ) (from to : journal.Place) (writes : List CellWrite) (s : State) → AllFit d m (map silent writes) s → AllFit d m (shown_last writes (copies k from to n)) s
-last_fit d m k n from to [] s fit = (tt, tt, tt)
-last_fit d m k n from to (w ∷ []) s fit = (tt, fit.1, tt)
-last_fit d m k n from to (w ∷ v ∷ writes) s fit = (tt, fit.1, last_fit d (put m (address_of (core_of d) d.scheme s w) (word_of (core_of d) d.scheme s w)) k n from to (v ∷ writes) (after_write (core_of d).arrays w s) fit.2)
+last_fit : (d : Doing) (now : ℕ) (m : ℕ → ℕ) (k n : ℕ) (from to : journal.Place) (writes : List CellWrite) (s : State) → AllFit d now m (map silent writes) s → AllFit d now m (shown_last writes (copies k from to n)) s
+last_fit d now m k n from to [] s fit = (tt, tt, tt)
+last_fit d now m k n from to (w ∷ []) s fit = (tt, fit.1, tt)
+last_fit d now m k n from to (w ∷ v ∷ writes) s fit = (tt, fit.1, last_fit d now (put m (address_of (core_of d) d.scheme s w) (word_of (core_of d) d.scheme s w)) k n from to (v ∷ writes) (after_write (core_of d).arrays w s) fit.2)
 
 more_both : (a : Atom) (atoms : List Atom) → ShowsOne a.write a.event → LastShowsBoth atoms → LastShowsBoth (a ∷ atoms)
 more_both a [] one both = absurd both
@@ -78,12 +79,12 @@ last_long w (v ∷ writes) e = omega (arith, last_long v writes e)
 abbrev IsOver : Program → (ℕ → journal.Place) → Spot → (many : ℕ) → Type 0
 IsOver p place_of m many = (i : ℕ) → many ≡ suc i → (j : ℕ) → length (trace_seen place_of (trace.trace p j (live m))) ≢ suc i
 
-shown_cuts : WritesKeep → FramKeeps → (p : Program) (place_of : ℕ → journal.Place) (d : Doing) (m : Spot) (s : State) → IsWellFormed (core_of d) → AreRelated p d true m s → IsRunning d s → (k n : ℕ) (from to : journal.Place) (writes : List CellWrite)
-    → AllFit d m.store (map silent writes) s → IsOver p place_of m (length writes) → Whole p place_of d m s (shown_last writes (copies k from to n))
-shown_cuts keep fram p place_of d m s well related runs k n from to [] fit over = ones_cut keep fram p place_of d true m s well related runs (showing (copies k from to n) ∷ []) (tt, tt, tt) (tt, tt)
-shown_cuts keep fram p place_of d m s well related runs k n from to (w ∷ writes) fit over =
+shown_cuts : WritesKeep → FramKeeps → (p : Program) (place_of : ℕ → journal.Place) (d : Doing) (m : Spot) (s : State) → IsWellFormed (core_of d) → AreRelated p d true m s → IsRunning d s → MayFollow d m.clock s → (k n : ℕ) (from to : journal.Place) (writes : List CellWrite)
+    → AllFit d m.clock m.store (map silent writes) s → IsOver p place_of m (length writes) → Whole p place_of d m s (shown_last writes (copies k from to n))
+shown_cuts keep fram p place_of d m s well related runs follows k n from to [] fit over = ones_cut keep fram p place_of d true m s well related runs follows (showing (copies k from to n) ∷ []) (tt, tt, tt) (tt, tt)
+shown_cuts keep fram p place_of d m s well related runs follows k n from to (w ∷ writes) fit over =
     let atoms : List Atom = shown_last (w ∷ writes) (copies k from to n) in
-    last_cut keep fram p place_of d true m s well related runs atoms (last_fit d m.store k n from to (w ∷ writes) s fit) (last_both w writes (copies k from to n))
+    last_cut keep fram p place_of d true m s well related runs follows atoms (last_fit d m.clock m.store k n from to (w ∷ writes) s fit) (last_both w writes (copies k from to n))
     (λ j is. over (length writes) refl j (is ∙ last_long w writes (copies k from to n)))
 
 -- ---- the legs
@@ -112,10 +113,10 @@ from_kept_over p place_of f x n to k next s fixed low a c words all has =
 
 -- ---- kept words
 
-kept_fit : (d : Doing) (word : ℕ → ℕ) (n j a : ℕ) (m : ℕ → ℕ) (s : State) → a + n ≤ 16384 → ((i : ℕ) → i < j + n → word i < 2 ^ 32) → AllFit d m (map silent (keep_writes a (words_by word j n))) s
-kept_fit d word zero j a m s few fits = tt
-kept_fit d word (suc n) j a m s few fits =
-    (tt, (omega (arith, few), fits j (omega arith)), kept_fit d word n (j + 1) (a + 1) (put m (7042 + a) (word j)) (after_write (core_of d).arrays (puts_kept a (word j)) s) (omega (arith, few)) (λ i low. fits i (omega (arith, low))))
+kept_fit : (d : Doing) (now : ℕ) (word : ℕ → ℕ) (n j a : ℕ) (m : ℕ → ℕ) (s : State) → a + n ≤ 16384 → ((i : ℕ) → i < j + n → word i < 2 ^ 32) → AllFit d now m (map silent (keep_writes a (words_by word j n))) s
+kept_fit d now word zero j a m s few fits = tt
+kept_fit d now word (suc n) j a m s few fits =
+    (tt, (omega (arith, few), fits j (omega arith), tt), kept_fit d now word n (j + 1) (a + 1) (put m (7042 + a) (word j)) (after_write (core_of d).arrays (puts_kept a (word j)) s) (omega (arith, few)) (λ i low. fits i (omega (arith, low))))
 
 by_long : (word : ℕ → ℕ) (j n : ℕ) → length (words_by word j n) ≡ n
 by_long word j zero = refl
@@ -130,7 +131,7 @@ kept_fram a low = grind (arith, nat_tests, low)
 
 -- the words of an end, as the kept words take them
 record TakesEnd (d : Doing) (m : Spot) (s : State) (at : Place) (first n : ℕ) : Type 0 where
-  fit : AllFit d m.store (map silent (keep_writes first (words_at s.store at n))) s
+  fit : AllFit d m.clock m.store (map silent (keep_writes first (words_at s.store at n))) s
   long : length (keep_writes first (words_at s.store at n)) ≡ n
 
 takes_end : IsRelatedThere → (p : Program) (d : Doing) (m : Spot) (s : State) (at : Place) (first n cell : ℕ) → IsWellFormed (core_of d) → AreRelated p d true m s → HasEnd (core_of d) (worked d.scheme s.bank) m.store cell at n → first + n ≤ 16384 → TakesEnd d m s at first n
@@ -141,7 +142,7 @@ takes_end relates p d m s at first n cell well related end few =
     let inside : at.index + n ≤ length (words_of s.store at.array) = subst (λ k. at.index + n ≤ k) (sym (r.arrays at.array).rooms) end.inside in
     let are : words_at s.store at n ≡ words_by word 0 n = words_are s.store at n inside in
     record {
-      fit = subst (λ ws. AllFit d m.store (map silent (keep_writes first ws)) s) (sym are) (kept_fit d word n 0 first m.store s few (λ i low. (source_is l (length (core_of d).pointers) m s.store at n _ r end.inside refl i (omega (arith, low))).fits));
+      fit = subst (λ ws. AllFit d m.clock m.store (map silent (keep_writes first ws)) s) (sym are) (kept_fit d m.clock word n 0 first m.store s few (λ i low. (source_is l (length (core_of d).pointers) m s.store at n _ r end.inside refl i (omega (arith, low))).fits));
       long = keep_long first (words_at s.store at n) ∙ ap length are ∙ by_long word 0 n;
     }
 
@@ -193,7 +194,7 @@ homes_over p place_of c m Vol writes n h over i is = absurd (omega (arith, ap le
 
 module _ (keep : WritesKeep) (fram : FramKeeps) (relates : IsRelatedThere) (p : Program) (place_of : ℕ → journal.Place) (d : Doing) (number : ℕ) (inner : Bool) (k : ℕ) where
   pub keep_words_cuts : CutsAct p place_of d number inner (act.KeepWords k) (KeepsCopy d k)
-  keep_words_cuts next m s well has related runs asks = by_copy s.frame.copy refl
+  keep_words_cuts next m s well has related runs follows asks = by_copy s.frame.copy refl
     where
       by_copy : (o : Option CopyValued) → s.frame.copy ≡ o → Cuts p place_of d m s (have o (λ v. silently (keep_writes (kept_at d k) (words_at s.store v.to v.length))))
       by_copy None is = absurd (asks.copy is)
@@ -201,10 +202,10 @@ module _ (keep : WritesKeep) (fram : FramKeeps) (relates : IsRelatedThere) (p : 
           let valued : HasValued (core_of d) (worked d.scheme s.bank) m.store v = related.memory.ram.frame.copy v is in
           let takes : TakesEnd d m s v.to (kept_at d k) v.length = takes_end relates p d m s v.to (kept_at d k) v.length 1048616 well related valued.to (asks.room v is) in
           let writes : List CellWrite = keep_writes (kept_at d k) (words_at s.store v.to v.length) in
-          (ones_cut keep fram p place_of d true m s well related runs (map silent writes) takes.fit (silent_ones writes), record { epoch = refl; task = refl; looks = refl })
+          (ones_cut keep fram p place_of d true m s well related runs follows (map silent writes) takes.fit (silent_ones writes), record { epoch = refl; task = refl; bank = refl; looks = refl; cells = refl })
 
   pub to_kept_cuts : CutsAct p place_of d number inner (act.Transfer k ToKept) (KeepsCopy d k)
-  to_kept_cuts next m s well has related runs asks = by_copy s.frame.copy refl
+  to_kept_cuts next m s well has related runs follows asks = by_copy s.frame.copy refl
     where
       by_copy : (o : Option CopyValued) → s.frame.copy ≡ o
           → Cuts p place_of d m s (have o (λ v. does (shown_last (keep_writes (kept_at d k) (words_at s.store v.from v.length)) (copies k (shown v.from) journal.keep v.length)) same ahead))
@@ -221,24 +222,24 @@ module _ (keep : WritesKeep) (fram : FramKeeps) (relates : IsRelatedThere) (p : 
           let over : IsOver p place_of m v.length = over_by p place_of (7042 + kept_at d k) from v.length m
           (λ i long words fits. to_kept_over p place_of (frame_of d number) x i from k next m related.fixed valued.from.address (valued.length.holds ∙ long) words fits has)
           (keeps_there relates p d m s v.from (kept_at d k) v.length 1048618 well related valued.from few) all in
-          (shown_cuts keep fram p place_of d m s well related runs k v.length (shown v.from) journal.keep writes takes.fit (λ i is. over i (sym takes.long ∙ is)), record { epoch = refl; task = refl; looks = refl })
+          (shown_cuts keep fram p place_of d m s well related runs follows k v.length (shown v.from) journal.keep writes takes.fit (λ i is. over i (sym takes.long ∙ is)), record { epoch = refl; task = refl; bank = refl; looks = refl; cells = refl })
 
 module _ (areas : AreasLie) (apart : SuitsThere) (keep : WritesKeep) (fram : FramKeeps) (relates : IsRelatedThere) (p : Program) (place_of : ℕ → journal.Place) (d : Doing) (number : ℕ) (inner : Bool) (k : ℕ) where
   pub put_words_cuts : CutsAct p place_of d number inner (act.PutWords k) (PutsCopy d k)
-  put_words_cuts next m s well has related runs asks = by_end (s.cells.to k) refl
+  put_words_cuts next m s well has related runs follows asks = by_end (s.cells.to k) refl
     where
       by_end : (o : Option Place) → s.cells.to k ≡ o
           → Cuts p place_of d m s (have o (λ to. does (showing (journal.keeps k (s.cells.length k)) ∷ map silent (home_writes (core_of d) (put_writes to (recorded_words d k s)))) (with_volatile (core_of d) (put_words to (recorded_words d k s) s.store)) ahead))
       by_end None is = absurd (asks.there is)
       by_end (Some at) is =
           let writes : List Write = put_writes at (recorded_words d k s) in (
-            ones_cut keep fram p place_of d true m s well related runs (showing (journal.keeps k (s.cells.length k)) ∷ map silent (home_writes (core_of d) writes))
-                (tt, tt, writes_fit keep p d m.issued well writes m.store s (puts_goes apart relates p d k m s at well related asks.recorded is).good (cells_alone p d true m.store m.issued s related.memory)) (tt, silent_ones (home_writes (core_of d) writes)),
-            record { epoch = refl; task = refl; looks = refl },
+            ones_cut keep fram p place_of d true m s well related runs follows (showing (journal.keeps k (s.cells.length k)) ∷ map silent (home_writes (core_of d) writes))
+                (tt, tt, writes_fit keep p d m.clock m.issued well writes m.store s (puts_goes apart relates p d k m s at well related asks.recorded is).good (cells_alone p d true m.store m.issued s related.memory)) (tt, silent_ones (home_writes (core_of d) writes)),
+            record { epoch = refl; task = refl; bank = refl; looks = refl; cells = refl },
           )
 
   pub from_kept_cuts : (most : ℕ) → IsSite k → slice_get d.setting.task.sites (k - 1) ≡ Some (site.Copy most) → CutsAct p place_of d number inner (act.Transfer k FromKept) (PutsCopy d k)
-  from_kept_cuts most here site_is next m s well has related runs asks = by_end (s.cells.to k) refl
+  from_kept_cuts most here site_is next m s well has related runs follows asks = by_end (s.cells.to k) refl
     where
       by_end : (o : Option Place) → s.cells.to k ≡ o
           → Cuts p place_of d m s (have o (λ to. words_shown (core_of d) (put_writes to (recorded_words d k s)) (copies k journal.keep (shown to) (s.cells.length k)) (put_words to (recorded_words d k s) s.store)))
@@ -254,14 +255,14 @@ module _ (areas : AreasLie) (apart : SuitsThere) (keep : WritesKeep) (fram : Fra
           let over : kind_at c at ≡ Nv → IsOver p place_of m n = λ nv. over_by p place_of to (7042 + kept_at d k) n m
           (λ i is_n words fits. from_kept_over p place_of (frame_of d number) x i to k next m related.fixed here.few (made.to at is) (made.length ∙ is_n) words fits has)
           (puts_there relates p d k m s at well related asks.recorded is) (homes_fram areas d s at n well nv (asks.recorded.inside at is).inside) in (
-            shown_cuts keep fram p place_of d m s well related runs k n journal.keep (shown at) (home_writes c writes)
-                (writes_fit keep p d m.issued well writes m.store s (puts_goes apart relates p d k m s at well related asks.recorded is).good (cells_alone p d true m.store m.issued s related.memory))
+            shown_cuts keep fram p place_of d m s well related runs follows k n journal.keep (shown at) (home_writes c writes)
+                (writes_fit keep p d m.clock m.issued well writes m.store s (puts_goes apart relates p d k m s at well related asks.recorded is).good (cells_alone p d true m.store m.issued s related.memory))
                 (homes_over p place_of c m (kind_at c at) writes n (subst (HomesBy c (kind_at c at) writes) long (puts_by c (kind_at c at) (recorded_words d k s) at refl)) over),
-            record { epoch = refl; task = refl; looks = refl },
+            record { epoch = refl; task = refl; bank = refl; looks = refl; cells = refl },
           )
 
   pub across_cuts : CutsAct p place_of d number inner (act.Transfer k Across) (MovesCopy d)
-  across_cuts next m s well has related runs asks = by_copy s.frame.copy refl
+  across_cuts next m s well has related runs follows asks = by_copy s.frame.copy refl
     where
       by_copy : (o : Option CopyValued) → s.frame.copy ≡ o
           → Cuts p place_of d m s (have o (λ v. words_shown (core_of d) (move_writes v.length v.to v.from s.store) (copies k (shown v.from) (shown v.to) v.length) (move_words v.length v.to v.from s.store)))
@@ -286,8 +287,8 @@ module _ (areas : AreasLie) (apart : SuitsThere) (keep : WritesKeep) (fram : Fra
           let over : kind_at c v.to ≡ Nv → IsOver p place_of m n = λ nv. over_by p place_of to from n m
           (λ i is_n has_words fits. across_over p place_of (frame_of d number) x i to from k next m related.fixed valued.to.address valued.from.address (valued.length.holds ∙ is_n) has_words fits has)
           words (homes_fram areas d s v.to n well nv valued.to.inside) in (
-            shown_cuts keep fram p place_of d m s well related runs k n (shown v.from) (shown v.to) (home_writes c writes)
-                (writes_fit keep p d m.issued well writes m.store s moves.good (cells_alone p d true m.store m.issued s related.memory))
+            shown_cuts keep fram p place_of d m s well related runs follows k n (shown v.from) (shown v.to) (home_writes c writes)
+                (writes_fit keep p d m.clock m.issued well writes m.store s moves.good (cells_alone p d true m.store m.issued s related.memory))
                 (homes_over p place_of c m (kind_at c v.to) writes n (moves_by c (kind_at c v.to) n v.to v.from s.store refl) over),
-            record { epoch = refl; task = refl; looks = refl },
+            record { epoch = refl; task = refl; bank = refl; looks = refl; cells = refl },
           )

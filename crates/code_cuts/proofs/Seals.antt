@@ -6,6 +6,7 @@ use Rattle.fram_ram.specs.Memories.{has_word, put}
 use Rattle.task_ast.specs.declared.tree.Ann.{Ann}
 use Rattle.task_ast.specs.declared.core_form.Core.{Core}
 use Rattle.task_ast.specs.declared.core_form.Site.TheVariants as site
+use Rattle.task_attempts.specs.Changes as changes
 use Rattle.walk_run.specs.declared.place.Place as walked
 use Rattle.word_isa.specs.declared.instr.Instr.TheVariants.{St}
 use Rattle.word_isa.specs.declared.mark.MarkKind.TheVariants as mark
@@ -15,11 +16,14 @@ use Rattle.word_machine.specs.Straight.{Spot, live}
 use Rattle.word_machine.specs.Traces as trace
 use Rattle.line_code.specs.declared.line.Line.{Line}
 use Rattle.line_code.specs.Lines.{marked}
+use Rattle.line_laws.specs.Relation.{base_at, room_at}
 use Rattle.line_laws.specs.Standing.{Lie}
+use Rattle.layout_laws.specs.Layouts.{layout_of}
 use Rattle.run_plan.specs.declared.act.Act.TheVariants as act
 use Rattle.run_plan.specs.Cells.{CopyValued, State, after_write, puts_class, puts_flag, puts_from, puts_length, puts_stamp, puts_to, puts_value}
 use Rattle.run_plan.specs.Deeds.{seal_done, sealed}
 use Rattle.run_plan.specs.Small.{Doing, core_of, have, silent, writing}
+use Rattle.run_plan.specs.Words.{kept_at}
 use Rattle.word_code.specs.Acts.{drop_code, jump, record_lines, seal_code}
 use Rattle.word_code.specs.Frames.{Frame, begun_at, ends_at, flag_at, sign, stamp_at, value_at}
 use Rattle.act_laws.specs.Codes.{Fixed, FramCell, HasFixed, RamCell, code_atoms, top}
@@ -35,6 +39,7 @@ use Rattle.act_refines.proofs.Simple.{WritesKeep}
 use Rattle.act_refines.proofs.Statements.{FramKeeps}
 use Rattle.code_cuts.specs.Acts.{CutsAct}
 use Rattle.code_cuts.specs.Asked.{SealsBlock, SealsCall, SealsCopy}
+use Rattle.code_cuts.specs.Lasting.{CopyHolds, RecordHolds}
 use Rattle.code_cuts.proofs.Cutting.{Cuts, last_cut}
 use Rattle.code_cuts.proofs.Steps.{code_over}
 
@@ -123,19 +128,36 @@ module _ (c : Core) (scheme : Scheme) (m : ℕ → ℕ) (s : State) (k : ℕ) (v
     length = hit from_put (ends_at k + 2) v.length ∙ sym (got k v.length s.cells.length);
   }
 
+-- it may be followed, wherever it goes
+some_not_none : {A : Type 0} (x : A) (o : Option A) → o ≡ Some x → o ≢ None
+some_not_none x o is none = absurd (cc (is, none))
+
+copy_holds : (d : Doing) (m : ℕ → ℕ) (s : State) (k : ℕ) (v : CopyValued) → v.to.index + v.length ≤ room_at (layout_of (core_of d) 0) v.to.array → base_at (layout_of (core_of d) 0) v.to.array ≢ 0 → kept_at d k + v.length ≤ 16384
+    → CopyHolds d k (with_length (core_of d) d.scheme m s k v)
+copy_holds d m s k v inside clear few =
+    let long : changes.put k v.length s.cells.length k ≡ v.length = got k v.length s.cells.length in
+    record {
+      class = some_not_none v.class _ (got k (Some v.class) s.cells.class);
+      to = v.to;
+      there = got k (Some v.to) s.cells.to;
+      inside = subst (λ n. v.to.index + n ≤ room_at (layout_of (core_of d) 0) v.to.array) (sym long) inside;
+      written = clear;
+      room = subst (λ n. kept_at d k + n ≤ 16384) (sym long) few;
+    }
+
 -- ---- the acts
 
 module _ (keep : WritesKeep) (fram : FramKeeps) (p : Program) (place_of : ℕ → Place) (d : Doing) (number : ℕ) (keeps : Bool) (k : ℕ) (here : IsSite k) where
   pub drop_cuts : CutsAct p place_of d number keeps (act.Drop k) Nothing
-  drop_cuts next m s well has related runs asks =
+  drop_cuts next m s well has related runs follows asks =
       let started : 0 < s.epoch = related.memory.tidy.started in (
-        last_cut keep fram p place_of d true m s well related runs (writing (puts_flag k 0) (drops k) ∷ []) (tt, ((here, λ e. absurd (omega (arith, started, e))), omega arith), tt) tt
+        last_cut keep fram p place_of d true m s well related runs follows (writing (puts_flag k 0) (drops k) ∷ []) (tt, ((here, λ e. absurd (omega (arith, started, e))), omega arith, λ e. absurd (omega (arith, started, e))), tt) tt
             (drop_over p place_of (fixed_in d.scheme s) (frame_of d number) k next m related.fixed here.few has),
-        record { epoch = refl; task = refl; looks = refl },
+        record { epoch = refl; task = refl; bank = refl; looks = refl; cells = refl },
       )
 
   pub seal_call_cuts : (ann : Ann) → slice_get d.setting.task.sites (k - 1) ≡ Some (site.Io ann) → CutsAct p place_of d number keeps (act.Seal k) (SealsCall k)
-  seal_call_cuts ann is next m s well has related runs asks = subst (λ o. Cuts p place_of d m s (seal_done o k s)) (sym (at_site d.setting.task.sites k here ∙ is)) (by_word s.frame.word refl)
+  seal_call_cuts ann is next m s well has related runs follows asks = subst (λ o. Cuts p place_of d m s (seal_done o k s)) (sym (at_site d.setting.task.sites k here ∙ is)) (by_word s.frame.word refl)
     where
       laid : Lie p m.pc (seal_code (frame_of d number) k (Some (site.Io ann)) ++ jump next)
       laid = subst (λ o. Lie p m.pc (seal_code (frame_of d number) k o ++ jump next)) is has
@@ -146,15 +168,18 @@ module _ (keep : WritesKeep) (fram : FramKeeps) (p : Program) (place_of : ℕ �
         hit (put m.store (value_at k) word) (stamp_at k) time ∙ sym (got k time s.cells.stamp),
       )
 
+      holds : (to : State) → RecordHolds d k to (slice_get d.setting.task.sites (k - 1))
+      holds to = subst (RecordHolds d k to) (sym is) tt
+
       by_time : (word : ℕ) → s.frame.word ≡ Some word → (u : Option ℕ) → s.frame.time ≡ u → Cuts p place_of d m s (have u (λ t. sealed k (puts_value k word ∷ puts_stamp k t ∷ puts_flag k s.epoch ∷ [])))
       by_time word one None two = absurd (asks.time two)
       by_time word one (Some time) two =
           let a : ram.HasWord m.store 1048614 word = related.memory.ram.frame.word word one in
           let b : ram.HasWord m.store 1048613 time = related.memory.ram.frame.time time two in (
-            last_cut keep fram p place_of d true m s well related runs (silent (puts_value k word) ∷ silent (puts_stamp k time) ∷ writing (puts_flag k s.epoch) (seals k) ∷ [])
-                (tt, ((here, asks.free), a.fits), (tt, ((here, asks.free), b.fits), (tt, ((here, λ same. whole word time), omega arith), tt))) (tt, (tt, tt))
+            last_cut keep fram p place_of d true m s well related runs follows (silent (puts_value k word) ∷ silent (puts_stamp k time) ∷ writing (puts_flag k s.epoch) (seals k) ∷ [])
+                (tt, ((here, asks.free), a.fits, tt), (tt, ((here, asks.free), b.fits, asks.past time two), (tt, ((here, λ same. whole word time), omega arith, λ same. holds (after_write (core_of d).arrays (puts_stamp k time) (after_write (core_of d).arrays (puts_value k word) s))), tt))) (tt, (tt, tt))
                 (call_over p place_of (fixed_in d.scheme s) (frame_of d number) ann k next m related.fixed here.few laid),
-            record { epoch = refl; task = refl; looks = refl },
+            record { epoch = refl; task = refl; bank = refl; looks = refl; cells = refl },
           )
 
       by_word : (o : Option ℕ) → s.frame.word ≡ o → Cuts p place_of d m s (have o (λ word. have s.frame.time (λ t. sealed k (puts_value k word ∷ puts_stamp k t ∷ puts_flag k s.epoch ∷ []))))
@@ -162,7 +187,7 @@ module _ (keep : WritesKeep) (fram : FramKeeps) (p : Program) (place_of : ℕ �
       by_word (Some word) one = by_time word one s.frame.time refl
 
   pub seal_block_cuts : (ann : Ann) → slice_get d.setting.task.sites (k - 1) ≡ Some (site.Block ann) → CutsAct p place_of d number keeps (act.Seal k) (SealsBlock k)
-  seal_block_cuts ann is next m s well has related runs asks = subst (λ o. Cuts p place_of d m s (seal_done o k s)) (sym (at_site d.setting.task.sites k here ∙ is)) (by_begun (s.frame.begun k) refl)
+  seal_block_cuts ann is next m s well has related runs follows asks = subst (λ o. Cuts p place_of d m s (seal_done o k s)) (sym (at_site d.setting.task.sites k here ∙ is)) (by_begun (s.frame.begun k) refl)
     where
       laid : Lie p m.pc (seal_code (frame_of d number) k (Some (site.Block ann)) ++ jump next)
       laid = subst (λ o. Lie p m.pc (seal_code (frame_of d number) k o ++ jump next)) is has
@@ -171,18 +196,21 @@ module _ (keep : WritesKeep) (fram : FramKeeps) (p : Program) (place_of : ℕ �
       whole time = subst (λ o. HasRecord (address_in (core_of d) (worked d.scheme s.bank)) o (put m.store (stamp_at k) time) (after_write (core_of d).arrays (puts_stamp k time) s).cells k) (sym is)
           (hit m.store (stamp_at k) time ∙ sym (got k time s.cells.stamp))
 
+      holds : (to : State) → RecordHolds d k to (slice_get d.setting.task.sites (k - 1))
+      holds to = subst (RecordHolds d k to) (sym is) tt
+
       by_begun : (u : Option ℕ) → s.frame.begun k ≡ u → Cuts p place_of d m s (have u (λ t. sealed k (puts_stamp k t ∷ puts_flag k s.epoch ∷ [])))
       by_begun None two = absurd (asks.begun two)
       by_begun (Some time) two =
           let b : ram.HasWord m.store (1048576 + begun_at k) time = related.memory.ram.frame.begun k here time two in (
-            last_cut keep fram p place_of d true m s well related runs (silent (puts_stamp k time) ∷ writing (puts_flag k s.epoch) (seals k) ∷ [])
-                (tt, ((here, asks.free), b.fits), (tt, ((here, λ same. whole time), omega arith), tt)) (tt, tt)
+            last_cut keep fram p place_of d true m s well related runs follows (silent (puts_stamp k time) ∷ writing (puts_flag k s.epoch) (seals k) ∷ [])
+                (tt, ((here, asks.free), b.fits, asks.past time two), (tt, ((here, λ same. whole time), omega arith, λ same. holds (after_write (core_of d).arrays (puts_stamp k time) s)), tt)) (tt, tt)
                 (block_over p place_of (fixed_in d.scheme s) (frame_of d number) ann k next m related.fixed here.from here.few laid),
-            record { epoch = refl; task = refl; looks = refl },
+            record { epoch = refl; task = refl; bank = refl; looks = refl; cells = refl },
           )
 
-  pub seal_copy_cuts : (most : ℕ) → slice_get d.setting.task.sites (k - 1) ≡ Some (site.Copy most) → CutsAct p place_of d number keeps (act.Seal k) (SealsCopy k)
-  seal_copy_cuts most is next m s well has related runs asks = subst (λ o. Cuts p place_of d m s (seal_done o k s)) (sym (at_site d.setting.task.sites k here ∙ is)) (by_copy s.frame.copy refl)
+  pub seal_copy_cuts : (most : ℕ) → slice_get d.setting.task.sites (k - 1) ≡ Some (site.Copy most) → CutsAct p place_of d number keeps (act.Seal k) (SealsCopy d k)
+  seal_copy_cuts most is next m s well has related runs follows asks = subst (λ o. Cuts p place_of d m s (seal_done o k s)) (sym (at_site d.setting.task.sites k here ∙ is)) (by_copy s.frame.copy refl)
     where
       laid : Lie p m.pc (seal_code (frame_of d number) k (Some (site.Copy most)) ++ jump next)
       laid = subst (λ o. Lie p m.pc (seal_code (frame_of d number) k o ++ jump next)) is has
@@ -191,13 +219,16 @@ module _ (keep : WritesKeep) (fram : FramKeeps) (p : Program) (place_of : ℕ �
       whole v = subst (λ o. HasRecord (address_in (core_of d) (worked d.scheme s.bank)) o (length_put (core_of d) d.scheme m.store s k v) (with_length (core_of d) d.scheme m.store s k v).cells k) (sym is)
           (copy_whole (core_of d) d.scheme m.store s k v here.few here.from)
 
+      holds : (v : CopyValued) → s.frame.copy ≡ Some v → RecordHolds d k (with_length (core_of d) d.scheme m.store s k v) (slice_get d.setting.task.sites (k - 1))
+      holds v one = subst (RecordHolds d k (with_length (core_of d) d.scheme m.store s k v)) (sym is) (copy_holds d m.store s k v (related.memory.ram.frame.copy v one).to.inside (asks.clear v one) (asks.room v one))
+
       by_copy : (o : Option CopyValued) → s.frame.copy ≡ o
           → Cuts p place_of d m s (have o (λ v. sealed k (puts_class k v.class ∷ puts_to k v.to ∷ puts_from k v.from ∷ puts_length k v.length ∷ puts_flag k s.epoch ∷ [])))
       by_copy None one = absurd (asks.copy one)
       by_copy (Some v) one =
           let loose : IsSite k × (s.cells.flag k ≢ s.epoch) = (here, asks.free) in (
-            last_cut keep fram p place_of d true m s well related runs (silent (puts_class k v.class) ∷ silent (puts_to k v.to) ∷ silent (puts_from k v.from) ∷ silent (puts_length k v.length) ∷ writing (puts_flag k s.epoch) (seals k) ∷ [])
-                (tt, (loose, tt), (tt, (loose, tt), (tt, (loose, tt), (tt, (loose, tt), (tt, ((here, λ same. whole v), omega arith), tt))))) (tt, (tt, (tt, (tt, tt))))
+            last_cut keep fram p place_of d true m s well related runs follows (silent (puts_class k v.class) ∷ silent (puts_to k v.to) ∷ silent (puts_from k v.from) ∷ silent (puts_length k v.length) ∷ writing (puts_flag k s.epoch) (seals k) ∷ [])
+                (tt, (loose, tt, tt), (tt, (loose, tt, tt), (tt, (loose, tt, tt), (tt, (loose, tt, tt), (tt, ((here, λ same. whole v), omega arith, λ same. holds v one), tt))))) (tt, (tt, (tt, (tt, tt))))
                 (copy_over p place_of (fixed_in d.scheme s) (frame_of d number) most k next m related.fixed here.few laid),
-            record { epoch = refl; task = refl; looks = refl },
+            record { epoch = refl; task = refl; bank = refl; looks = refl; cells = refl },
           )

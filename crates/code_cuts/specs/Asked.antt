@@ -1,5 +1,5 @@
 -- What acts of sites ask, so that they miss nothing that an act before them makes.
-use Rattle.std.specs.Prelude.{◌≡◌, ◌≢◌, ℕ, Some, None}
+use Rattle.std.specs.Prelude.{◌≡◌, ◌≢◌, ℕ, ◌≤◌, Some, None}
 use Rattle.walk_run.specs.declared.place.Place.{Place}
 use Rattle.word_machine.specs.Straight.{Spot}
 use Rattle.run_plan.specs.Cells.{CopyValued, State}
@@ -56,19 +56,24 @@ pub record IsInside (k : ℕ) (m : Spot) (s : State) : Type 0 where
   pub mode : HasMode m s
   pub outer : HasOuter k m s
 
--- a record that doesn't hold, and what is sealed
+-- a record that doesn't hold, and what is sealed; no stamp is of the future
 pub record SealsCall (k : ℕ) (m : Spot) (s : State) : Type 0 where
   pub free : IsFree k m s
   pub word : HasWord m s
   pub time : HasTime m s
+  pub past : (t : ℕ) → s.frame.time ≡ Some t → t ≤ m.clock
 
 pub record SealsBlock (k : ℕ) (m : Spot) (s : State) : Type 0 where
   pub free : IsFree k m s
   pub begun : HasBegun k m s
+  pub past : (t : ℕ) → s.frame.begun k ≡ Some t → t ≤ m.clock
 
-pub record SealsCopy (k : ℕ) (m : Spot) (s : State) : Type 0 where
+-- a copy goes to no constant, and the site's kept words have room for it
+pub record SealsCopy (d : Doing) (k : ℕ) (m : Spot) (s : State) : Type 0 where
   pub free : IsFree k m s
   pub copy : HasCopy m s
+  pub clear : (v : CopyValued) → s.frame.copy ≡ Some v → base_at (layout_of (core_of d) 0) v.to.array ≢ 0
+  pub room : IsRoomFor d k m s
 
 -- a call was valued, and a word goes to its target
 pub record HasAimed (m : Spot) (s : State) : Type 0 where

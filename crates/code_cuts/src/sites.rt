@@ -120,7 +120,7 @@ pub fn a_dropped_record_is_cut_well()
     same_fram_keeps_cells();
 }
 
-/// Sealing a call's record is, where it doesn't hold and its word and time were made: its flag, the last, is seen with its event.
+/// Sealing a call's record is, where it doesn't hold and its word and time were made, the time not later than now: its flag, the last, is seen with its event.
 pub fn a_sealed_call_is_cut_well()
     ensures { (p : Program) (place_of : ℕ → Place) (d : Doing) (number : ℕ) (keeps : Bool) (k : ℕ) (ann : Ann) → IsSite k → slice_get d.setting.task.sites (k - 1) ≡ Some (site.Io ann)
         → CutsAct p place_of d number keeps (act.Seal k) (SealsCall k) }
@@ -129,7 +129,7 @@ pub fn a_sealed_call_is_cut_well()
     same_fram_keeps_cells();
 }
 
-/// And a block's, where its beginning was.
+/// And a block's, where its beginning was, not later than now.
 pub fn a_sealed_block_is_cut_well()
     ensures { (p : Program) (place_of : ℕ → Place) (d : Doing) (number : ℕ) (keeps : Bool) (k : ℕ) (ann : Ann) → IsSite k → slice_get d.setting.task.sites (k - 1) ≡ Some (site.Block ann)
         → CutsAct p place_of d number keeps (act.Seal k) (SealsBlock k) }
@@ -138,10 +138,10 @@ pub fn a_sealed_block_is_cut_well()
     same_fram_keeps_cells();
 }
 
-/// And a copy's, where it was valued.
+/// And a copy's, where it was valued, goes to no constant, and the site's kept words have room for it: then its record may be followed.
 pub fn a_sealed_copy_is_cut_well()
     ensures { (p : Program) (place_of : ℕ → Place) (d : Doing) (number : ℕ) (keeps : Bool) (k most : ℕ) → IsSite k → slice_get d.setting.task.sites (k - 1) ≡ Some (site.Copy most)
-        → CutsAct p place_of d number keeps (act.Seal k) (SealsCopy k) }
+        → CutsAct p place_of d number keeps (act.Seal k) (SealsCopy d k) }
 {
     a_write_keeps_memory();
     same_fram_keeps_cells();

@@ -1,7 +1,7 @@
 mod Acts
 mod Beginning
 mod Bodies
-mod Boots
+pub mod Boots
 mod Committing
 mod Examples
 pub mod Lists

@@ -1,10 +1,12 @@
 -- Behind a failure FRAM stands for what the failure leaves of a plan's state.
-use Rattle.std.specs.Prelude.{slice_index, slice_index_or}
-use Rattle.std.proofs.Common.{◌≡◌, ◌≢◌, ◌∙◌, ℕ, zero, suc, ◌<◌, ◌^◌, false, List, [], ◌∷◌, length, refl, sym, ap, subst, arith, eqb-true}
+use Rattle.std.specs.Prelude.{slice_get, slice_index, slice_index_or, Option, Some, None}
+use Rattle.std.proofs.Common.{◌≡◌, ◌≢◌, ◌∙◌, ℕ, zero, suc, ◌+◌, ◌-◌, ◌<◌, ◌≤◌, ◌^◌, false, List, [], ◌∷◌, length, refl, sym, ap, subst, arith, eqb-true}
 use Rattle.std.proofs.lemmas.Bool.{lt-ltb}
 use Rattle.fram_ram.specs.Memories.{failed}
 use Rattle.task_ast.specs.declared.core_form.Array.{Array}
 use Rattle.task_ast.specs.declared.core_form.Core.{Core}
+use Rattle.task_ast.specs.declared.core_form.Site.{Site}
+use Rattle.task_ast.specs.declared.core_form.Site.TheVariants as site
 use Rattle.task_ast.specs.declared.tree.Kind.{Kind}
 use Rattle.task_ast.specs.declared.tree.Kind.TheVariants.{Nv, Const, Vol}
 use Rattle.task_ast.specs.WellFormed.{IsWellFormed}
@@ -22,7 +24,7 @@ use Rattle.run_plan.specs.Cells.{State, lost, lost_words}
 use Rattle.run_plan.specs.Small.{Doing, core_of}
 use Rattle.ram_laws.specs.Ram.{AreWhole}
 use Rattle.act_refines.specs.Between.{MemoryStands}
-use Rattle.code_cuts.specs.Lasting.{doing_of}
+use Rattle.code_cuts.specs.Lasting.{MayFollow, RecordHolds, doing_of}
 use Rattle.power_runs.specs.Due.{FailsWell}
 
 -- where FRAM is the same, all that outlives a power failure is
@@ -108,8 +110,23 @@ state_fails p d m counts s h =
       };
     }
 
+-- what is recorded may be followed as before, and later
+later_holds : (d : Doing) (s : State) (k : ℕ) (o : Option Site) → RecordHolds d k s o → RecordHolds d k (cells.failed (core_of d) s) o
+later_holds d s k (Some (site.Io ann)) h = tt
+later_holds d s k (Some (site.Block ann)) h = tt
+later_holds d s k (Some (site.Copy most)) h = record { class = h.class; to = h.to; there = h.there; inside = h.inside; written = h.written; room = h.room }
+later_holds d s k None h = tt
+
+pub follows_failed : (d : Doing) (now later : ℕ) (s : State) → now ≤ later → MayFollow d now s → MayFollow d later (cells.failed (core_of d) s)
+follows_failed d now later s less h = record {
+  records = λ k is holds. later_holds d s k (slice_get d.setting.task.sites (k - 1)) (h.records k is holds);
+  past = λ k. let past : s.cells.stamp k ≤ now = h.past k in omega (arith, past, less);
+}
+
 -- so it is behind each power row
 pub failing : SameFram → (p : Program) (rules : Rules) (scheme : Scheme) → IsWellFormed rules.core → FailsWell p rules scheme
-failing same p rules scheme well e s row on lasts t may =
-    state_fails p (doing_of rules scheme t) (failed e.store row.fill) e.issued s
-    (same p (doing_of rules scheme t) e.store (failed e.store row.fill) e.issued s well (lasts t may) (λ a low. fram_stays e.store row.fill a low))
+failing same p rules scheme well e s row on lasts t may = record {
+  memory = state_fails p (doing_of rules scheme t) (failed e.store row.fill) e.issued s
+      (same p (doing_of rules scheme t) e.store (failed e.store row.fill) e.issued s well (lasts t may).memory (λ a low. fram_stays e.store row.fill a low));
+  follows = follows_failed (doing_of rules scheme t) e.clock (e.clock + row.off) s (omega arith) (lasts t may).follows;
+}

@@ -1,7 +1,7 @@
 -- Where a run over power rows begins so that it is followed, and what is asked of looks and failures.
 use Rattle.std.specs.Prelude.{List, [], ◌∷◌, ◌++◌, ◌≡◌, ℕ, ◌+◌, ◌<◌, ◌≤◌, ◌^◌, ⊤, Some, None, length}
 use Rattle.devices.specs.Journal.{Place}
-use Rattle.devices.specs.World.{steps_of}
+use Rattle.devices.specs.World.{steps_of, ticks_of}
 use Rattle.devices.specs.declared.world.PowerRow.{PowerRow}
 use Rattle.task_attempts.specs.State.{Rules}
 use Rattle.word_isa.specs.declared.parts.Scheme.{Scheme}
@@ -35,12 +35,14 @@ AreDueOver p place_of (row ∷ rows) m times =
 abbrev pub FailsWell : Program → Rules → Scheme → Type 0
 FailsWell p rules scheme = (e : machine.State) (s : State) (row : PowerRow) → e.ending ≡ Running → Lasts p rules scheme e s → Lasts p rules scheme (live (begun_again row e)) (cells.failed rules.core s)
 
--- a machine that begins a run over power rows: it stands for a state of the plan whose epochs don't run out, and its looks are due
+-- a machine that begins a run over power rows: it stands for a state of the plan whose epochs don't run out, its clock doesn't
+-- either, and its looks are due
 pub record StartsWell (p : Program) (place_of : ℕ → Place) (x : Planned) (rows : List PowerRow) (m : Spot) (s : State) : Type 0 where
   pub pc : m.pc ≡ 0
   pub lasts : Lasts p x.rules x.plan.scheme (live m) s
   pub next : s.task ≤ length x.rules.core.tasks
   pub room : s.epoch + steps_of rows + 1 < 2 ^ 24
+  pub ticks : m.clock + ticks_of rows < 2 ^ 32
   pub due : AreDueOver p place_of rows m s.looks
 
 -- no mark is at an instruction that halts: a machine shows nothing as it halts

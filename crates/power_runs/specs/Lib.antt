@@ -1,3 +1,4 @@
 pub mod Due
 pub mod Followed
 pub mod Journals
+pub mod Quiet

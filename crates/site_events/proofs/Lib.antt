@@ -10,7 +10,7 @@ mod Cuts
 mod KeptWords
 mod Places
 mod Records
-mod Runs
+pub mod Runs
 mod SiteProofs
 mod States
 mod Stores

@@ -1,5 +1,11 @@
 pub mod Bare
+pub mod EveryRun
+pub mod PlainLog
+pub mod Soundness
 pub mod States
 pub mod Tells
+pub mod Told
+pub mod ToldPlaces
+pub mod Turns
 pub mod Unmarked
 pub mod Whole

@@ -26,11 +26,11 @@ use Rattle.sound_runs.specs.Committed.{AreCommitted, IsCommitted}
 use Rattle.sound_images.specs.Sound.{shown_state}
 
 -- a task that may run next, in a program that has one
-record SomeNext (c : Core) (number : ℕ) : Type 0 where
-  task : CoreTask
-  may : MayRun c number task
+pub record SomeNext (c : Core) (number : ℕ) : Type 0 where
+  pub task : CoreTask
+  pub may : MayRun c number task
 
-some_next : (c : Core) (number : ℕ) → IsWellFormed c → SomeNext c number
+pub some_next : (c : Core) (number : ℕ) → IsWellFormed c → SomeNext c number
 some_next c number well = by (task_of c number) refl c.tasks well.some
   where
     by : (o : Option CoreTask) → task_of c number ≡ o → (tasks : List CoreTask) → 0 < length tasks → SomeNext c number
@@ -47,7 +47,7 @@ module _ (p : Program) (rules : Rules) (scheme : Scheme) (i : Image) (well : IsW
   one_shown : (next : ℕ) (e : machine.State) (w : walked.State) → IsCommitted p rules scheme next e w → shown_state i (next, e) ≡ w
   one_shown next e w h =
       let t = some_next rules.core h.state.task well in
-      let stands = h.lasts t.task t.may in
+      let stands = (h.lasts t.task t.may).memory in
       let words : nv_words i.symbols (bank_offset i.state i.stride e.store) e.store ≡ w.words =
       (λ j. nv_words (image.symbols j) (bank_offset (image.state j) (image.stride j) e.store) e.store) ∙ shows e.store h.state stands.cells.store stands.tidy ∙ h.words in
       let told : next ≡ w.next = sym h.told in

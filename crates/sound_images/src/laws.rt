@@ -1,0 +1,36 @@
+//! Soundness of images, as the contract of a function that does nothing (docs/CODE.md, "What is proved").
+ghost use Rattle.run_plan.specs.PlanOf.{plan_of};
+ghost use Rattle.sound_images.specs.Sound.{HasNoSites, IsSound};
+ghost use Rattle.task_ast.specs.WellFormed.{IsWellFormed};
+ghost use Rattle.word_code.specs.ImageOf.{IsImageOf};
+ghost use Rattle.word_isa.specs.declared.image.Image.{Image};
+
+use code_places::{a_stop_halts, the_code_of_a_plan_lies_in_its_image};
+use code_runs::a_program_without_sites_runs_its_plan;
+use image_memory::{an_image_begins_with_the_first_state, the_symbols_show_what_is_committed};
+use power_runs::{
+    a_failure_leaves_what_lasts, a_run_over_power_rows_is_followed, the_looks_of_a_journal_are_due,
+};
+use task_ast::Core;
+use timed_runs::{a_machine_halts_where_nothing_is_left, the_time_of_each_look_is_the_clock};
+use word_isa::Scheme;
+
+/// The image of the plan of a program without sites is sound, under either scheme: on every world within the limits, and so over
+/// every list of power failures between machine steps, its journal has the events of the rules, each look the clock's time, each
+/// event within its steps; behind each commit the nonvolatile words and the next task are those of the unbroken run, a trap is
+/// that run's, and the machine halts in time where no task is next.
+pub fn every_image_of_a_program_without_sites_is_sound(c: &Core, scheme: Scheme)
+    requires { IsWellFormed c.now }
+    ensures { (i : Image) → IsImageOf (plan_of c.now scheme) c.now i → HasNoSites c.now → IsSound c.now scheme i }
+{
+    the_code_of_a_plan_lies_in_its_image(c, scheme);
+    a_stop_halts(c, scheme);
+    a_program_without_sites_runs_its_plan();
+    an_image_begins_with_the_first_state();
+    the_symbols_show_what_is_committed();
+    a_failure_leaves_what_lasts();
+    the_looks_of_a_journal_are_due();
+    a_run_over_power_rows_is_followed();
+    the_time_of_each_look_is_the_clock();
+    a_machine_halts_where_nothing_is_left();
+}

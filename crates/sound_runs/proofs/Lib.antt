@@ -1,0 +1,9 @@
+pub mod BootCommits
+pub mod CommitsOn
+pub mod Ends
+pub mod Keeping
+pub mod Longer
+pub mod Shown
+pub mod Starting
+pub mod TrapsLast
+pub mod Whole
