@@ -1,15 +1,14 @@
 -- An act's code at its place, cut anywhere.
 use Rattle.std.specs.Prelude.{◌⊎◌, nat_lt}
-use Rattle.std.proofs.Common.{◌≡◌, ◌≢◌, ◌∙◌, ℕ, zero, suc, ◌+◌, ◌-◌, ◌<◌, ◌≤◌, inl, inr, Bool, true, false, List, [], ◌∷◌, ◌++◌, refl, sym, ap, subst, append_assoc, append-nil, arith}
+use Rattle.std.proofs.Common.{◌≡◌, ◌∙◌, ℕ, zero, suc, ◌+◌, ◌-◌, ◌<◌, ◌≤◌, inl, inr, Bool, true, false, List, [], ◌∷◌, ◌++◌, refl, sym, ap, subst, append_assoc, append-nil, arith}
 use Rattle.std.proofs.lemmas.Bool.Decides.{nat_tests}
 use Rattle.devices.specs.Journal.{Place, traps}
 use Rattle.task_ast.specs.declared.core_form.Core.{Core}
-use Rattle.task_ast.specs.WellFormed.{IsWellFormed}
 use Rattle.walk_run.specs.Trap.{code_of}
 use Rattle.walk_run.specs.declared.trap.Trap.{Trap}
 use Rattle.word_isa.specs.declared.parts.Scheme.{Scheme}
 use Rattle.word_machine.specs.Events.{event_at, event_next}
-use Rattle.word_machine.specs.RunLaws.{exec_more, stays_halted, stays_trapped, trace_more}
+use Rattle.word_machine.specs.RunLaws.{clock_rises, exec_more, stays_halted, stays_trapped, trace_more}
 use Rattle.word_machine.specs.State as machine
 use Rattle.word_machine.specs.State.{Program}
 use Rattle.word_machine.specs.Step.{exec, step, step_at}
@@ -17,22 +16,20 @@ use Rattle.word_machine.specs.Straight.{Spot, live}
 use Rattle.word_machine.specs.Traces as trace
 use Rattle.word_machine.specs.declared.ending.Ending.{Ending}
 use Rattle.word_machine.specs.declared.ending.Ending.TheVariants.{Running, Halted, Trapped}
-use Rattle.line_laws.specs.Standing.{Lie}
 use Rattle.run_plan.specs.declared.act.Act.{Act}
 use Rattle.run_plan.specs.Cells.{State}
 use Rattle.run_plan.specs.Deeds.{act_done}
 use Rattle.run_plan.specs.Small.{Atom, Doing, Done, Way, after_atom, after_shown, core_of, does, fails, showing, stuck}
-use Rattle.word_code.specs.ActCode.{act_code}
 use Rattle.act_refines.specs.Between.{AreRelated}
 use Rattle.act_refines.specs.Does.{Ends, GoesOn, RelatedBehind, Stops, frame_of, has_begun, way_at}
 use Rattle.act_refines.specs.Seen.{IsFront, Seen, behind, event_seen, steps_seen, tells, trace_seen, write_seen}
 use Rattle.code_cuts.specs.Acts.{AreWhole, CutsBy, IsQuiet, IsThrough, SoFar}
 use Rattle.code_cuts.specs.Lasting.{IsNear}
 use Rattle.code_cuts.specs.Runs.{end_seen, shown_by}
-use Rattle.code_runs.specs.Cutting.{FitsThere, KeepsBy}
+use Rattle.code_runs.specs.Cutting.{FitsThere, HasGone, KeepsBy}
 use Rattle.code_runs.specs.Following.{IfMore, Inside, Passes, PassesBy, RunsIn}
 use Rattle.code_runs.proofs.Near.{near_quiet, near_then, near_trap}
-use Rattle.code_runs.proofs.Splitting.{seen_more}
+use Rattle.code_runs.proofs.Splitting.{seen_more, shown_behind}
 
 pub is_less : (n m : ℕ) → nat_lt n m ≡ true → n < m
 is_less n m is = grind (arith, nat_tests)
@@ -92,6 +89,10 @@ running p n steps m there runs few = by (exec p n (live m)).ending refl
         let ended : Running ≡ Trapped code = ap (λ t. t.ending) (sym runs ∙ stays) ∙ is in
         cc
 
+-- and its clock has risen by one a step
+pub clock_of : (p : Program) (steps : ℕ) (m there : Spot) → exec p steps (live m) ≡ live there → there.clock ≡ m.clock + steps
+clock_of p steps m there runs = ap (λ (e : machine.State). e.clock) (sym runs) ∙ clock_rises p steps (live m) (ap (λ (e : machine.State). e.ending) runs)
+
 -- ---- an act that goes on, and one that traps
 
 -- within the steps in which the machine goes on
@@ -123,9 +124,9 @@ inside_trapped p place_of c scheme Stood n most m s atoms why w ended all =
       whole = append-nil (atoms ++ trap);
       shown = (λ i. all i ++ end_seen (ended i)) ∙ sym (steps_more c scheme atoms trap s);
       stood = subst (Stood (exec p n (live m))) (sym (behind_more c atoms trap s)) through.stood;
-      near = subst (IsNear c n (steps_seen c scheme (atoms ++ trap) s) s) (sym (behind_more c atoms trap s))
-          (subst (λ xs. IsNear c n xs s (behind c atoms s)) (sym (steps_more c scheme atoms trap s))
-          (near_then c n 0 n (steps_seen c scheme atoms s) (tells (traps (code_of why)) ∷ []) s (behind c atoms s) (behind c atoms s) (omega arith) through.near (near_trap c (code_of why) (behind c atoms s))));
+      near = subst (IsNear c scheme n (steps_seen c scheme (atoms ++ trap) s) s) (sym (behind_more c atoms trap s))
+          (subst (λ xs. IsNear c scheme n xs s (behind c atoms s)) (sym (steps_more c scheme atoms trap s))
+          (near_then c scheme n 0 n (steps_seen c scheme atoms s) (tells (traps (code_of why)) ∷ []) s (behind c atoms s) (behind c atoms s) (omega arith) through.near (near_trap c scheme (code_of why) (behind c atoms s))));
       on = λ is. trapped_goes_on (code_of why) (sym ended ∙ is);
       in_time = tt;
     }
@@ -173,20 +174,34 @@ fails_by p place_of c scheme Stood n most m s atoms why w x = by (nat_lt n x.ste
         inside_trapped p place_of c scheme Stood n most m s atoms why w (ap (λ t. t.ending) stays ∙ x.ended) (ap (trace_seen place_of) same_trace ∙ x.shown)
 
 -- one that goes on, by whether it has gone its way
-does_by : (p : Program) (place_of : ℕ → Place) (c : Core) (scheme : Scheme) (Stood : machine.State → State → Type 0) (After : ℕ → Spot → State → Type 0) (Related : Spot → State → Type 0) (n most : ℕ) (to : Way → ℕ) (m : Spot) (s : State)
+does_by : (p : Program) (place_of : ℕ → Place) (c : Core) (scheme : Scheme) (Stood : machine.State → State → Type 0) (After : Way → ℕ → Spot → State → Type 0) (Related : Spot → State → Type 0) (n most : ℕ) (to : Way → ℕ) (m : Spot) (s : State)
     (atoms : List Atom) (change : State → State) (way : Way) → AreWhole p place_of c scheme Stood m s atoms → IsQuiet (behind c atoms s) (change (behind c atoms s))
-    → GoesOn p place_of most m (to way) (steps_seen c scheme atoms s) (λ there. Related there (change (behind c atoms s))) → KeepsBy c scheme After n s (does atoms change way)
-    → Inside p place_of c scheme Stood n most m s (does atoms change way) ⊎ Passes p place_of c scheme After Related n most (to way) m atoms s (change (behind c atoms s))
+    → GoesOn p place_of most m (to way) (steps_seen c scheme atoms s) (λ there. Related there (change (behind c atoms s))) → KeepsBy p place_of c scheme Stood After n m s (does atoms change way)
+    → Inside p place_of c scheme Stood n most m s (does atoms change way) ⊎ Passes p place_of c scheme (After way) Related n most (to way) m atoms s (change (behind c atoms s))
 does_by p place_of c scheme Stood After Related n most to m s atoms change way w quiet g keeps = by (nat_lt n g.steps) refl
   where
     all : trace_seen place_of (trace.trace p g.steps (live m)) ≡ steps_seen c scheme atoms s
     all = ap (trace_seen place_of) g.goes.seen ∙ g.shown
 
-    near : IsNear c g.steps (steps_seen c scheme atoms s) s (change (behind c atoms s))
-    near = let through : IsThrough p c scheme Stood g.steps m s atoms = w.last g.steps all in
-        near_quiet c g.steps (steps_seen c scheme atoms s) s (behind c atoms s) (change (behind c atoms s)) through.near quiet
+    through : IsThrough p c scheme Stood g.steps m s atoms
+    through = w.last g.steps all
 
-    by : (b : Bool) → nat_lt n g.steps ≡ b → Inside p place_of c scheme Stood n most m s (does atoms change way) ⊎ Passes p place_of c scheme After Related n most (to way) m atoms s (change (behind c atoms s))
+    near : IsNear c scheme g.steps (steps_seen c scheme atoms s) s (change (behind c atoms s))
+    near = near_quiet c scheme g.steps (steps_seen c scheme atoms s) s (behind c atoms s) (change (behind c atoms s)) through.near quiet
+
+    gone : g.steps ≤ n → HasGone p place_of c scheme Stood n g.steps m g.there atoms s (change (behind c atoms s))
+    gone few =
+        let sum : g.steps + (n - g.steps) ≡ n = omega (arith, few) in
+        record {
+          few = few;
+          clock = clock_of p g.steps m g.there g.goes.runs;
+          near = near;
+          stood = subst (λ e. Stood e (behind c atoms s)) g.goes.runs through.stood;
+          quiet = quiet;
+          shown = ap (λ j. shown_by p place_of j m) (sym sum) ∙ shown_behind p place_of g.steps (n - g.steps) m g.there g.atoms g.goes ∙ ap (λ (ys : List Seen). ys ++ shown_by p place_of (n - g.steps) g.there) g.shown;
+        }
+
+    by : (b : Bool) → nat_lt n g.steps ≡ b → Inside p place_of c scheme Stood n most m s (does atoms change way) ⊎ Passes p place_of c scheme (After way) Related n most (to way) m atoms s (change (behind c atoms s))
     by true is =
         let early : n < g.steps = is_less n g.steps is in
         let few : n ≤ g.steps = omega (arith, early) in
@@ -205,18 +220,18 @@ does_by p place_of c scheme Stood After Related n most to m s atoms change way w
         })
     by false is =
         let few : g.steps ≤ n = not_less n g.steps is in
-        inr (record { goes = g; few = few; near = near; holds = keeps g.steps g.there few near })
+        inr (record { goes = g; few = few; near = near; holds = keeps g.steps g.there (gone few) })
 
 -- ---- an act at its place
 
-runs_by : (p : Program) (place_of : ℕ → Place) (d : Doing) (Stood : machine.State → State → Type 0) (After : ℕ → Spot → State → Type 0) (a : Act) (n most : ℕ) (to : Way → ℕ) (m : Spot) (s : State) (done : Done)
-    → CutsBy p place_of (core_of d) d.scheme Stood m s done → Ends p place_of d a most to m s done → KeepsBy (core_of d) d.scheme After n s done
+runs_by : (p : Program) (place_of : ℕ → Place) (d : Doing) (Stood : machine.State → State → Type 0) (After : Way → ℕ → Spot → State → Type 0) (a : Act) (n most : ℕ) (to : Way → ℕ) (m : Spot) (s : State) (done : Done)
+    → CutsBy p place_of (core_of d) d.scheme Stood m s done → Ends p place_of d a most to m s done → KeepsBy p place_of (core_of d) d.scheme Stood After n m s done
     → Inside p place_of (core_of d) d.scheme Stood n most m s done ⊎ PassesBy p place_of (core_of d) d.scheme After (RelatedBehind p d a) n most to m s done
 runs_by p place_of d Stood After a n most to m s (does atoms change way) cuts g keeps = does_by p place_of (core_of d) d.scheme Stood After (RelatedBehind p d a) n most to m s atoms change way cuts.0 cuts.1 g keeps
 runs_by p place_of d Stood After a n most to m s (fails atoms why) cuts x keeps = inl (fails_by p place_of (core_of d) d.scheme Stood n most m s atoms why cuts x)
 runs_by p place_of d Stood After a n most to m s stuck cuts x keeps = elim cuts [ ]
 
-pub runs_in : (p : Program) (place_of : ℕ → Place) (d : Doing) (number : ℕ) (Stood : machine.State → State → Type 0) (Before After : ℕ → Spot → State → Type 0) (most : State → ℕ) (a : Act) (at next : ℕ)
+pub runs_in : (p : Program) (place_of : ℕ → Place) (d : Doing) (number : ℕ) (Stood : machine.State → State → Type 0) (Before : ℕ → Spot → State → Type 0) (After : Way → ℕ → Spot → State → Type 0) (most : State → ℕ) (a : Act) (at next : ℕ)
     → ((n : ℕ) (m : Spot) (s : State) → m.pc ≡ at → AreRelated p d (has_begun a) m s → Before n m s → FitsThere p place_of d number Stood After n (most s) a at next m s)
     → RunsIn p place_of d number Stood Before After most a at next
 runs_in p place_of d number Stood Before After most a at next fits n m s pc related known =

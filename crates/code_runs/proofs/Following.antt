@@ -1,5 +1,5 @@
 -- An act that is cut, and what comes behind it; and acts in a row.
-use Rattle.std.specs.Prelude.{◌⊎◌, ◌≢◌, length, None}
+use Rattle.std.specs.Prelude.{◌⊎◌, ◌≢◌, length}
 use Rattle.std.proofs.Common.{◌≡◌, ◌∙◌, ℕ, zero, suc, ◌+◌, ◌-◌, ◌<◌, ◌≤◌, inl, inr, List, [], ◌∷◌, ◌++◌, refl, sym, ap, subst, append_assoc, append-nil, arith}
 use Rattle.devices.specs.Journal.{Place, commits, traps}
 use Rattle.task_ast.specs.declared.core_form.Core.{Core}
@@ -26,7 +26,7 @@ use Rattle.act_refines.specs.Does.{GoesOn, RelatedBehind, frame_of, has_begun, w
 use Rattle.act_refines.specs.Seen.{Seen, behind, puts, steps_seen, tells, trace_seen}
 use Rattle.code_cuts.specs.Lasting.{IsNear}
 use Rattle.code_cuts.specs.Runs.{Cut, IsInProgress, shown_by, smalls_seen}
-use Rattle.code_runs.specs.Following.{IfMore, Inside, IsWay, Leads, LeadsAgain, LeadsFrom, Passes, PassesBy, RunsAt, RunsIn, commit_most}
+use Rattle.code_runs.specs.Following.{AnyWay, IfMore, Inside, IsWay, Leads, LeadsAgain, LeadsFrom, Passes, PassesBy, RunsAt, RunsIn, commit_most}
 use Rattle.code_runs.proofs.Near.{near_then}
 use Rattle.code_runs.proofs.Splitting.{at_behind, exec_behind, from_after, from_seen, from_split, shown_behind, smalls_from, steps_split}
 
@@ -36,7 +36,7 @@ end_small a s at = record { act = a; atom = ending; after = s; weights = at.weig
 
 -- behind an act that has gone its way
 pub cut_behind : (p : Program) (place_of : ℕ → Place) (c : Core) (scheme : Scheme) (Stood : machine.State → State → Type 0) (a : Act) (n spent most pc : ℕ) (m : Spot) (at : At) (atoms : List Atom) (change : State → State) (go : Onward)
-    (Related : Spot → Type 0) (g : GoesOn p place_of most m pc (steps_seen c scheme atoms at.state) Related) → g.steps ≤ n → IsNear c g.steps (steps_seen c scheme atoms at.state) at.state (change (behind c atoms at.state))
+    (Related : Spot → Type 0) (g : GoesOn p place_of most m pc (steps_seen c scheme atoms at.state) Related) → g.steps ≤ n → IsNear c scheme g.steps (steps_seen c scheme atoms at.state) at.state (change (behind c atoms at.state))
     → Cut p place_of c scheme Stood (n - g.steps) (spent + g.steps) g.there (change (behind c atoms at.state)) (go (with_state (change (behind c atoms at.state)) at))
     → Cut p place_of c scheme Stood n spent m at.state (small_steps c a atoms (act_end c a change go) at)
 cut_behind p place_of c scheme Stood a n spent most pc m at atoms change go Related g few near r =
@@ -55,9 +55,9 @@ cut_behind p place_of c scheme Stood a n spent most pc m at atoms change go Rela
       shown = ap (λ j. shown_by p place_of j m) (sym steps_are) ∙ shown_behind p place_of g.steps k m g.there g.atoms g.goes ∙ (λ i. g.shown i ++ r.shown i)
           ∙ sym seen;
       stood = subst (λ e. Stood e (after at.state front)) (sym ended) (subst (Stood (exec p k (live g.there))) (sym left) r.stood);
-      near = subst (IsNear c n (smalls_seen c scheme front at.state) at.state) (sym left)
-          (subst (λ xs. IsNear c n xs at.state (after to r.front)) (sym seen)
-          (near_then c g.steps k n (steps_seen c scheme atoms at.state) (smalls_seen c scheme r.front to) at.state to (after to r.front) steps_are near r.near));
+      near = subst (IsNear c scheme n (smalls_seen c scheme front at.state) at.state) (sym left)
+          (subst (λ xs. IsNear c scheme n xs at.state (after to r.front)) (sym seen)
+          (near_then c scheme g.steps k n (steps_seen c scheme atoms at.state) (smalls_seen c scheme r.front to) at.state to (after to r.front) steps_are near r.near));
       on = λ is. ap (λ (s : State). task_of c s.task) left ∙ r.on (ap (λ e. e.ending) (sym ended) ∙ is);
       within = let sum_is : spent + g.steps + k ≡ spent + n = omega (arith, steps_are) in subst (λ j. IsInProgress j r.rest) sum_is r.within;
     }
@@ -74,7 +74,7 @@ front_after c a front at = ap (after at.state) (sym (append-nil (smalls_from c a
 cut_within : (p : Program) (place_of : ℕ → Place) (c : Core) (scheme : Scheme) (Stood : machine.State → State → Type 0) (a : Act) (n spent : ℕ) (m : Spot) (at : At) (front left : List Atom) (more xs : Smalls)
     → smalls_from c a (front ++ left) at ++ more ≡ xs
     → shown_by p place_of n m ≡ steps_seen c scheme front at.state → Stood (exec p n (live m)) (behind c front at.state)
-    → IsNear c n (steps_seen c scheme front at.state) at.state (behind c front at.state) → (exec p n (live m)).ending ≢ Halted
+    → IsNear c scheme n (steps_seen c scheme front at.state) at.state (behind c front at.state) → (exec p n (live m)).ending ≢ Halted
     → IsInProgress (spent + n) (smalls_from c a left (at_behind c front at) ++ more) → Cut p place_of c scheme Stood n spent m at.state xs
 cut_within p place_of c scheme Stood a n spent m at front left more xs whole shown stood near on within = record {
   front = smalls_from c a front at;
@@ -82,8 +82,8 @@ cut_within p place_of c scheme Stood a n spent m at front left more xs whole sho
   whole = sym (append_assoc (smalls_from c a front at) (smalls_from c a left (at_behind c front at)) more) ∙ ap (λ (ys : Smalls). ys ++ more) (sym (from_split c a front left at)) ∙ whole;
   shown = shown ∙ sym (front_seen c scheme a front at);
   stood = subst (Stood (exec p n (live m))) (sym (front_after c a front at)) stood;
-  near = subst (IsNear c n (smalls_seen c scheme (smalls_from c a front at) at.state) at.state) (sym (front_after c a front at))
-      (subst (λ xs. IsNear c n xs at.state (behind c front at.state)) (sym (front_seen c scheme a front at)) near);
+  near = subst (IsNear c scheme n (smalls_seen c scheme (smalls_from c a front at) at.state) at.state) (sym (front_after c a front at))
+      (subst (λ xs. IsNear c scheme n xs at.state (behind c front at.state)) (sym (front_seen c scheme a front at)) near);
   on = λ is. absurd (on is);
   within = within;
 }
@@ -139,9 +139,9 @@ abbrev weighed : Doing → Act → At → At
 weighed d a at = record at { weights = at.weights + weight d a at.state }
 
 -- an act is done at its place, and what comes behind it where it leads
-module _ (p : Program) (place_of : ℕ → Place) (d : Doing) (number : ℕ) (Stood : machine.State → State → Type 0) (Before After : ℕ → Spot → State → Type 0) where
+module _ (p : Program) (place_of : ℕ → Place) (d : Doing) (number : ℕ) (Stood : machine.State → State → Type 0) (Before : ℕ → Spot → State → Type 0) (After : Way → ℕ → Spot → State → Type 0) where
   pub act_follows : (Later : Spot → State → Type 0) (a : Act) (at next most : ℕ) (ways : Way → Onward) → ((m : Spot) (s : State) → RelatedBehind p d a m s → Later m s)
-      → RunsAt p place_of d number Stood Before After a at next → ((s : State) (way : Way) → IsWay (act_done d a s) way → LeadsFrom p place_of (core_of d) d.scheme Stood After Later (suc most) (way_at (frame_of d number) a at next way) (ways way))
+      → RunsAt p place_of d number Stood Before After a at next → ((s : State) (way : Way) → IsWay (act_done d a s) way → LeadsFrom p place_of (core_of d) d.scheme Stood (After way) Later (suc most) (way_at (frame_of d number) a at next way) (ways way))
       → LeadsFrom p place_of (core_of d) d.scheme Stood Before (AreRelated p d (has_begun a)) (suc most) at (act_steps d a ways)
   act_follows Later a at next most ways later runs leads n spent m w soon pc related few holds = by (act_done d a w.state) refl (runs n m w.state pc related holds)
     where
@@ -154,7 +154,7 @@ module _ (p : Program) (place_of : ℕ → Place) (d : Doing) (number : ℕ) (St
       by done is (inl x) = cut_inside p place_of (core_of d) d.scheme Stood a n spent (weight d a w.state) m (weighed d a w) done ways enough x
       by (does atoms change way) is (inr x) =
           let soon_too : n - x.goes.steps < suc most = omega (arith, soon) in
-          cut_passed p place_of (core_of d) d.scheme Stood After (RelatedBehind p d a) Later a n spent (weight d a w.state) (suc most) (way_at (frame_of d number) a at next way) m (weighed d a w) atoms change (ways way) enough x soon_too
+          cut_passed p place_of (core_of d) d.scheme Stood (After way) (RelatedBehind p d a) Later a n spent (weight d a w.state) (suc most) (way_at (frame_of d number) a at next way) m (weighed d a w) atoms change (ways way) enough x soon_too
           (later x.goes.there (change (behind (core_of d) atoms w.state)) x.goes.related) (leads w.state way (subst (λ o. IsWay o way) (sym is) refl))
       by (fails atoms why) is (inr x) = elim x [ ]
       by stuck is (inr x) = elim x [ ]
@@ -180,7 +180,7 @@ module _ (p : Program) (place_of : ℕ → Place) (d : Doing) (number : ℕ) (St
       by (suc steps) is = omega arith
 
   -- it leads to the attempt of its next task, in fewer steps, and leaves one of its weight
-  pub commit_follows : (t at next most : ℕ) (again : Onward) → RunsIn p place_of d number Stood Holds (Ready t) commit_most (act.Commit t) at next → t ≤ length (core_of d).tasks → LeadsAgain p place_of d Stood Ready most again
+  pub commit_follows : (t at next most : ℕ) (again : Onward) → RunsIn p place_of d number Stood Holds (AnyWay (Ready t)) commit_most (act.Commit t) at next → t ≤ length (core_of d).tasks → LeadsAgain p place_of d Stood Ready most again
       → Leads p place_of d Stood Holds (suc most) at (act_steps d (act.Commit t) (straight again))
   commit_follows t at next most again runs there leads n spent m w soon pc related few holds = by (runs n m w.state pc related holds)
     where
@@ -188,7 +188,7 @@ module _ (p : Program) (place_of : ℕ → Place) (d : Doing) (number : ℕ) (St
       enough = omega (arith, few)
 
       by : Inside p place_of (core_of d) d.scheme Stood n 31 m w.state (act_done d (act.Commit t) w.state)
-          ⊎ PassesBy p place_of (core_of d) d.scheme (Ready t) (RelatedBehind p d (act.Commit t)) n 31 (way_at (frame_of d number) (act.Commit t) at next) m w.state (act_done d (act.Commit t) w.state)
+          ⊎ PassesBy p place_of (core_of d) d.scheme (AnyWay (Ready t)) (RelatedBehind p d (act.Commit t)) n 31 (way_at (frame_of d number) (act.Commit t) at next) m w.state (act_done d (act.Commit t) w.state)
           → Cut p place_of (core_of d) d.scheme Stood n spent m w.state (deed (core_of d) (act.Commit t) (act_done d (act.Commit t) w.state) (straight again) (weighed d (act.Commit t) w))
       by (inl x) = cut_inside p place_of (core_of d) d.scheme Stood (act.Commit t) n spent 31 m (weighed d (act.Commit t) w) (act_done d (act.Commit t) w.state) (straight again) enough x
       by (inr x) =

@@ -27,7 +27,7 @@ use Rattle.word_code.specs.Sizes.{act_size, acts_size, row_size}
 use Rattle.act_refines.specs.Between.{AreRelated}
 use Rattle.act_refines.specs.Does.{frame_of, way_to}
 use Rattle.code_runs.specs.Attempts.{AttemptRuns, IfThere, LeadsFirst, RegionsRun, attempt}
-use Rattle.code_runs.specs.Following.{ActRuns, ActsRun, IsWay, Leads, LeadsAgain, RowRuns, RunsAt}
+use Rattle.code_runs.specs.Following.{ActRuns, ActsRun, AnyWay, IsWay, Leads, LeadsAgain, RowRuns, RunsAt}
 use Rattle.code_runs.proofs.Following.{act_follows, commit_follows}
 use Rattle.code_runs.proofs.InRows.{in_act}
 
@@ -46,11 +46,11 @@ module _ (p : Program) (place_of : ℕ → Place) (d : Doing) (number : ℕ) (St
       let rest : LeadsFirst p place_of d Stood Holds (suc most) behind_at (acts_run d again (map act.Restore rs) go) = regions_follow rs behind_at next go long rest_is runs.1 on in
       by (nat_lt r (regions d.setting.task)) refl runs.0 rest
     where
-      by : (b : Bool) → nat_lt r (regions d.setting.task) ≡ b → IfThere b (RunsAt p place_of d number Stood Holds Holds (act.Restore r) at (at + act_size (frame_of d number) (act.Restore r)))
+      by : (b : Bool) → nat_lt r (regions d.setting.task) ≡ b → IfThere b (RunsAt p place_of d number Stood Holds (AnyWay Holds) (act.Restore r) at (at + act_size (frame_of d number) (act.Restore r)))
           → LeadsFirst p place_of d Stood Holds (suc most) (at + act_size (frame_of d number) (act.Restore r)) (acts_run d again (map act.Restore rs) go)
           → LeadsFirst p place_of d Stood Holds (suc most) at (if_there b (act_steps d (act.Restore r) (straight (acts_run d again (map act.Restore rs) go))) (acts_run d again (map act.Restore rs) go))
       by true there here rest =
-          act_follows p place_of d number Stood Holds Holds (AreRelated p d false) (act.Restore r) at (at + act_size (frame_of d number) (act.Restore r)) most (straight (acts_run d again (map act.Restore rs) go)) (λ m s related. related) here (λ s way goes. rest)
+          act_follows p place_of d number Stood Holds (AnyWay Holds) (AreRelated p d false) (act.Restore r) at (at + act_size (frame_of d number) (act.Restore r)) most (straight (acts_run d again (map act.Restore rs) go)) (λ m s related. related) here (λ s way goes. rest)
       by false absent here rest =
           let none : act_size (frame_of d number) (act.Restore r) ≡ 0 = no_region r long absent in
           let same_place : at + act_size (frame_of d number) (act.Restore r) ≡ at = omega (arith, none) in
@@ -118,7 +118,7 @@ module _ (p : Program) (place_of : ℕ → Place) (d : Doing) (number : ℕ) (St
       let two : Leads p place_of d Stood Holds (suc most) (entry (act_row_of (y ∷ [])).1 no_at next) (row_run d again (act_row_of (y ∷ [])).1 nothing) =
       subst (λ pc. Leads p place_of d Stood Holds (suc most) pc (row_run d again (act_row_of (y ∷ [])).1 nothing)) (sym (entry_of_acts no_at next (y ∷ [])))
       (subst (Leads p place_of d Stood Holds (suc most) no_at) (sym (run_lists d again (y ∷ []) nothing)) (second no_at y_runs.0)) in
-      act_follows p place_of d number Stood Holds Holds (AreRelated p d true) (act.Test c (x ∷ []) (y ∷ [])) at next most (by_way (row_run d again (act_row_of (x ∷ [])).1 nothing) (row_run d again (act_row_of (y ∷ [])).1 nothing) nothing nothing)
+      act_follows p place_of d number Stood Holds (AnyWay Holds) (AreRelated p d true) (act.Test c (x ∷ []) (y ∷ [])) at next most (by_way (row_run d again (act_row_of (x ∷ [])).1 nothing) (row_run d again (act_row_of (y ∷ [])).1 nothing) nothing nothing)
       (λ m s related. related) runs.0
       (λ s way goes. test_ways (entry (act_row_of (x ∷ [])).1 yes_at next) (entry (act_row_of (y ∷ [])).1 no_at next) next (row_run d again (act_row_of (x ∷ [])).1 nothing) (row_run d again (act_row_of (y ∷ [])).1 nothing) one two way
       (test_goes (value_of c s.store) way goes))
@@ -146,5 +146,5 @@ module _ (p : Program) (place_of : ℕ → Place) (d : Doing) (number : ℕ) (St
       → LeadsFirst p place_of d Stood (Ready number) (suc most) at (acts_run d again (attempt t acts e) nothing)
   attempt_follows t acts e at next runs =
       let behind_at : ℕ = at + act_size (frame_of d number) (act.Begin t) in
-      act_follows p place_of d number Stood (Ready number) Holds (AreRelated p d true) (act.Begin t) at (acts_entry (acts ++ exit_act e ∷ []) behind_at next) most (straight (acts_run d again (acts ++ exit_act e ∷ []) nothing))
+      act_follows p place_of d number Stood (Ready number) (AnyWay Holds) (AreRelated p d true) (act.Begin t) at (acts_entry (acts ++ exit_act e ∷ []) behind_at next) most (straight (acts_run d again (acts ++ exit_act e ∷ []) nothing))
       (λ m s related. related) runs.0 (λ s way goes. committing acts e behind_at next runs.1)

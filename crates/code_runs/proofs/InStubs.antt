@@ -1,5 +1,5 @@
 -- From a commit to the next attempt through its stub, and so attempts one after another.
-use Rattle.std.specs.Prelude.{Option, Some, None, length, ◌^◌}
+use Rattle.std.specs.Prelude.{Option, Some, None, length}
 use Rattle.std.proofs.Common.{◌≡◌, ◌∙◌, ℕ, zero, suc, ◌+◌, ◌<◌, ◌≤◌, false, [], ◌∷◌, ◌++◌, refl, sym, ap, subst, arith}
 use Rattle.devices.specs.Journal.{Place}
 use Rattle.task_ast.specs.declared.core_form.Core.{Core}
@@ -25,13 +25,13 @@ use Rattle.act_laws.specs.CodeLaws.{goes_jmp}
 use Rattle.act_laws.specs.Codes.{Goes}
 use Rattle.act_refines.specs.Between.{AreRelated}
 use Rattle.act_refines.specs.Seen.{trace_seen}
-use Rattle.code_runs.specs.Attempts.{LeadsFirst, attempt}
-use Rattle.code_cuts.specs.Lasting.{Lasts}
+use Rattle.code_runs.specs.Attempts.{LeadsFirst}
+use Rattle.code_cuts.specs.Lasting.{Lasts, doing_of}
 use Rattle.code_cuts.specs.Runs.{Cut, IsInProgress, end_seen, shown_by, smalls_seen}
-use Rattle.code_runs.specs.Claims.{GoesWell, IsReady}
+use Rattle.code_runs.specs.Claims.{Common}
 use Rattle.code_runs.specs.Following.{LeadsAgain, RelatedNext}
 use Rattle.code_runs.specs.Stubs.{AllStubsRun, StubRuns}
-use Rattle.code_runs.proofs.InAttempts.{attempt_follows}
+use Rattle.code_runs.proofs.Commons.{common_none, common_on, lasts_later}
 use Rattle.code_runs.proofs.Near.{near_later, near_none}
 use Rattle.code_runs.proofs.Splitting.{exec_behind, shown_behind}
 
@@ -42,15 +42,15 @@ fewer a b [] less h = tt
 fewer a b (x ∷ rest) less h = omega (arith, less, h)
 
 -- before it
-pub cut_now : (p : Program) (place_of : ℕ → Place) (rules : Rules) (scheme : Scheme) (spent pc clock : ℕ) (m : Spot) (s : State) (xs : Smalls)
-    → Cut p place_of rules.core scheme (Lasts p rules scheme) 0 (spent + 1) (record m { pc = pc; clock = clock }) s xs → Cut p place_of rules.core scheme (Lasts p rules scheme) 0 spent m s xs
+pub cut_now : (p : Program) (place_of : ℕ → Place) (rules : Rules) (scheme : Scheme) (spent pc : ℕ) (m : Spot) (s : State) (xs : Smalls)
+    → Cut p place_of rules.core scheme (Lasts p rules scheme) 0 (spent + 1) (record m { pc = pc }) s xs → Cut p place_of rules.core scheme (Lasts p rules scheme) 0 spent m s xs
 unfolding exec trace.trace
-cut_now p place_of rules scheme spent pc clock m s xs r = record {
+cut_now p place_of rules scheme spent pc m s xs r = record {
   front = r.front;
   rest = r.rest;
   whole = r.whole;
   shown = r.shown;
-  stood = r.stood;
+  stood = λ t may. (let h = r.stood t may in record { memory = h.memory; follows = h.follows });
   near = r.near;
   on = r.on;
   within = fewer (spent + 0) (spent + 1 + 0) r.rest (omega arith) r.within;
@@ -69,7 +69,7 @@ cut_later p place_of c scheme Stood steps k n spent m there s xs goes sum r =
       whole = r.whole;
       shown = ap (λ j. shown_by p place_of j m) (sym sum) ∙ shown_behind p place_of steps k m there [] goes ∙ r.shown;
       stood = subst (λ e. Stood e (after s r.front)) (sym ended) r.stood;
-      near = near_later c k n (smalls_seen c scheme r.front s) s (after s r.front) fewer_steps r.near;
+      near = near_later c scheme k n (smalls_seen c scheme r.front s) s (after s r.front) fewer_steps r.near;
       on = λ is. r.on (ap (λ e. e.ending) (sym ended) ∙ is);
       within = subst (λ j. IsInProgress j r.rest) sum_is r.within;
     }
@@ -85,21 +85,21 @@ halted_trace p (suc k) s is = (λ i. (trace.writes_at p (is i) s ++ trace.shows 
 pub halting : (p : Program) (place_of : ℕ → Place) (rules : Rules) (scheme : Scheme) (n spent : ℕ) (m : Spot) (s : State) → Stand p m.pc Halt → Lasts p rules scheme (live m) s → task_of rules.core s.task ≡ None
     → Cut p place_of rules.core scheme (Lasts p rules scheme) n spent m s []
 unfolding exec trace.trace
-halting p place_of rules scheme zero spent m s stand stood none = record { front = []; rest = []; whole = refl; shown = refl; stood = stood; near = near_none rules.core s; on = λ is. none; within = tt }
+halting p place_of rules scheme zero spent m s stand stood none = record { front = []; rest = []; whole = refl; shown = refl; stood = stood; near = near_none rules.core scheme s; on = λ is. none; within = tt }
 halting p place_of rules scheme (suc k) spent m s stand stood none =
     let h : machine.State = record (live m) { pc = m.pc + 1; clock = m.clock + 1; ending = Halted } in
     let goes : step p (live m) ≡ h = step_halt p m stand.instr in
     let stays : exec p k (step p (live m)) ≡ h = ap (exec p k) goes ∙ stays_halted p k h refl in
     let nothing_seen : trace.seen p (live m) ≡ [] = seen_of p Halt m stand.instr refl ∙ ap (λ sign. trace.shows (event p.values sign Halt (live m))) stand.mark in
     let silent : trace.trace p k (step p (live m)) ≡ [] = ap (trace.trace p k) goes ∙ halted_trace p k h refl in
-    let stood_there : Lasts p rules scheme h s = stood in
+    let stood_there : Lasts p rules scheme h s = λ t may. lasts_later p (doing_of rules scheme t) (live m) h s refl refl (omega arith) (stood t may) in
     record {
       front = [];
       rest = [];
       whole = refl;
       shown = λ i. trace_seen place_of (nothing_seen i ++ silent i) ++ end_seen (stays i).ending;
       stood = subst (λ e. Lasts p rules scheme e s) (sym stays) stood_there;
-      near = near_later rules.core 0 (suc k) [] s s (omega arith) (near_none rules.core s);
+      near = near_later rules.core scheme 0 (suc k) [] s s (omega arith) (near_none rules.core scheme s);
       on = λ is. none;
       within = tt;
     }
@@ -107,16 +107,22 @@ halting p place_of rules scheme (suc k) spent m s stand stood none =
 -- ---- attempts
 
 module _ (p : Program) (place_of : ℕ → Place) (x : Planned) where
+  abbrev Stood : machine.State → State → Type 0
+  Stood = Lasts p x.rules x.plan.scheme
+
+  abbrev Known : (number n : ℕ) → Spot → State → Type 0
+  Known = Common p place_of x.rules x.plan.scheme
+
   at_stub : (number : ℕ) (task : CoreTask) (most t : ℕ) (o : Option CoreTask) → task_of x.rules.core t ≡ o → StubRuns p place_of x t o
-      → ((u : CoreTask) → LeadsAgain p place_of (doing x t u) (Lasts p x.rules x.plan.scheme) IsReady most (attempts x most))
-      → (n spent : ℕ) (m : Spot) (w : At) → n < suc most → m.pc ≡ stub_at (length x.rules.core.tasks) t → RelatedNext p (doing x number task) t m w.state → spent < w.weights → IsReady t n m w.state
-      → Cut p place_of x.rules.core x.plan.scheme (Lasts p x.rules x.plan.scheme) n spent m w.state (attempt_if_there x (attempts x most) t o w)
+      → ((u : CoreTask) → LeadsAgain p place_of (doing x t u) Stood Known most (attempts x most))
+      → (n spent : ℕ) (m : Spot) (w : At) → n < suc most → m.pc ≡ stub_at (length x.rules.core.tasks) t → RelatedNext p (doing x number task) t m w.state → spent < w.weights → Known t n m w.state
+      → Cut p place_of x.rules.core x.plan.scheme Stood n spent m w.state (attempt_if_there x (attempts x most) t o w)
   at_stub number task most t None none stand leads n spent m w soon pc related early holds =
-      halting p place_of x.rules x.plan.scheme n spent m w.state (subst (λ a. Stand p a Halt) (sym pc) stand) (λ u may. (related.1 u []).memory) (ap (task_of x.rules.core) related.0 ∙ none)
-  at_stub number task most t (Some u) found r leads n spent m w soon pc related early holds = subst (λ acts. Goal n (acts_run (doing x t u) (attempts x most) acts nothing w)) (sym r.planned) (by n soon holds)
+      halting p place_of x.rules x.plan.scheme n spent m w.state (subst (λ a. Stand p a Halt) (sym pc) stand) (λ u may. record { memory = (related.1 u []).memory; follows = holds.follows u may }) (ap (task_of x.rules.core) related.0 ∙ none)
+  at_stub number task most t (Some u) found r leads n spent m w soon pc related early holds = by n soon holds
     where
       Goal : ℕ → Smalls → Type 0
-      Goal k xs = Cut p place_of x.rules.core x.plan.scheme (Lasts p x.rules x.plan.scheme) k spent m w.state xs
+      Goal k xs = Cut p place_of x.rules.core x.plan.scheme Stood k spent m w.state xs
 
       there : Spot
       there = record m { pc = r.top; clock = m.clock + 1 }
@@ -124,25 +130,27 @@ module _ (p : Program) (place_of : ℕ → Place) (x : Planned) where
       goes : Goes p 1 m there []
       goes = goes_jmp p r.top m (subst (λ a. Lie p a (jump r.top)) (sym pc) r.stub)
 
-      related_there : AreRelated p (doing x t u) false there w.state
-      related_there = let is = related.1 u (at_task x.plan.firsts t []) in record { fixed = is.fixed; memory = is.memory }
+      related_at : (clock : ℕ) → AreRelated p (doing x t u) false (record m { pc = r.top; clock = clock }) w.state
+      related_at clock = let is = related.1 u (at_task x.plan.firsts t []) in record { fixed = is.fixed; memory = is.memory }
 
-      first : LeadsFirst p place_of (doing x t u) (Lasts p x.rules x.plan.scheme) (IsReady t) (suc most) r.top (acts_run (doing x t u) (attempts x most) (attempt r.first r.acts r.exit) nothing)
-      first = attempt_follows p place_of (doing x t u) t (Lasts p x.rules x.plan.scheme) IsReady (GoesWell t u) most (attempts x most) (leads u) r.first r.acts r.exit r.top r.next r.runs
+      first : LeadsFirst p place_of (doing x t u) Stood (Known t) (suc most) r.top (acts_run (doing x t u) (attempts x most) (at_task x.plan.tasks t []) nothing)
+      first = r.leads most (attempts x most) (leads u)
 
       enough : spent + 1 ≤ w.weights
       enough = omega (arith, early)
 
-      by : (k : ℕ) → k < suc most → IsReady t k m w.state → Goal k (acts_run (doing x t u) (attempts x most) (attempt r.first r.acts r.exit) nothing w)
-      by zero less ready = cut_now p place_of x.rules x.plan.scheme spent r.top (m.clock + 1) m w.state _ (first 0 (spent + 1) there w less refl related_there enough (record { room = ready.room; task = ready.task }))
-      by (suc k) less ready =
+      by : (k : ℕ) → k < suc most → Known t k m w.state → Goal k (acts_run (doing x t u) (attempts x most) (at_task x.plan.tasks t []) nothing w)
+      by zero less known =
+          let now : Spot = record m { pc = r.top } in
+          cut_now p place_of x.rules x.plan.scheme spent r.top m w.state _ (first 0 (spent + 1) now w less refl (related_at m.clock) enough (common_none p place_of x.rules x.plan.scheme t 0 m now w.state refl known))
+      by (suc k) less known =
           let less_too : k < suc most = omega (arith, less) in
-          let room : w.state.epoch + suc k + 1 < 2 ^ 24 = ready.room in
-          let room_too : w.state.epoch + k + 1 < 2 ^ 24 = omega (arith, room) in
-          cut_later p place_of x.rules.core x.plan.scheme (Lasts p x.rules x.plan.scheme) 1 k (suc k) spent m there w.state _ goes (omega arith) (first k (spent + 1) there w less_too refl related_there enough (record { room = room_too; task = ready.task }))
+          let sum : 1 + k ≡ suc k = omega arith in
+          cut_later p place_of x.rules.core x.plan.scheme Stood 1 k (suc k) spent m there w.state _ goes sum
+          (first k (spent + 1) there w less_too refl (related_at (m.clock + 1)) enough (common_on p place_of x.rules x.plan.scheme t 1 k (suc k) m there w.state goes sum known))
 
-  pub attempts_lead : (number : ℕ) (task : CoreTask) → AllStubsRun p place_of x → (most : ℕ) → LeadsAgain p place_of (doing x number task) (Lasts p x.rules x.plan.scheme) IsReady most (attempts x most)
+  pub attempts_lead : (number : ℕ) (task : CoreTask) → AllStubsRun p place_of x → (most : ℕ) → LeadsAgain p place_of (doing x number task) Stood Known most (attempts x most)
   attempts_lead number task stubs zero t there n spent m w soon pc related early holds = absurd (omega (arith, soon))
   attempts_lead number task stubs (suc most) t there n spent m w soon pc related early holds =
-      subst (λ k. Cut p place_of x.rules.core x.plan.scheme (Lasts p x.rules x.plan.scheme) n spent m w.state (attempt_if_there x (attempts x most) k (task_of x.rules.core k) w)) (sym related.0)
+      subst (λ k. Cut p place_of x.rules.core x.plan.scheme Stood n spent m w.state (attempt_if_there x (attempts x most) k (task_of x.rules.core k) w)) (sym related.0)
       (at_stub number task most t (task_of x.rules.core t) refl (stubs t there) (λ u. attempts_lead t u stubs most) n spent m w soon pc related early holds)

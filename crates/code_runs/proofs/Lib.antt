@@ -1,13 +1,16 @@
 pub mod BareActs
 pub mod BareBoots
+pub mod BareLaws
 pub mod BarePlans
 pub mod Booting
+pub mod Commons
 pub mod Cutting
 pub mod Following
 pub mod InAttempts
 pub mod InRows
 pub mod InStubs
 pub mod Near
+pub mod Placing
 pub mod Splitting
 pub mod Words
 pub mod Writes

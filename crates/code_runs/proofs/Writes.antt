@@ -1,23 +1,22 @@
 -- Statements of a checked form write only words where they may.
-use Rattle.std.specs.Prelude.{◌==◌, ◌||◌, nat_lt, ⊤, length, cond, Option, Some, None, Result, Ok, Err, slice_get, slice_index_or, if◌then◌else◌}
+use Rattle.std.specs.Prelude.{◌==◌, ◌||◌, nat_lt, ⊤, length, Option, Some, None, Result, Ok, Err, slice_get, if◌then◌else◌}
 use Rattle.std.specs.List.{AllByRecursion}
 use Rattle.std.proofs.Common.{◌≡◌, ◌≢◌, ◌∙◌, ℕ, zero, suc, ◌+◌, ◌^◌, ◌<◌, ◌≤◌, Bool, true, false, List, [], ◌∷◌, ◌++◌, refl, sym, ap, subst, arith, eqb-true, eq-eqb}
 use Rattle.task_ast.specs.declared.limits.TheConstants.{MOST_TURNS}
 use Rattle.task_ast.specs.declared.tree.Kind.{Kind}
 use Rattle.task_ast.specs.declared.tree.Kind.TheVariants.{Nv, Const, Vol}
-use Rattle.task_ast.specs.Pointing.{Pointing, addresses, pointing, row_addresses}
+use Rattle.task_ast.specs.Pointing.{addresses, pointing, row_addresses}
 use Rattle.task_ast.specs.WellFormed as form
 use Rattle.task_ast.specs.WellFormed.{AreCoreStmts, IsCoreExpr, IsCoreStmt, IsTarget, IsVariable, Scope, scope_of}
 use Rattle.task_ast.specs.declared.core_form.Array.{Array}
 use Rattle.task_ast.specs.declared.core_form.Core.{Core}
-use Rattle.task_ast.specs.declared.core_form.CoreExpr.{CoreExpr}
 use Rattle.task_ast.specs.declared.core_form.CoreStmt.{CoreStmt, Row_of-CoreStmt, end_of-CoreStmt, more_of-CoreStmt}
 use Rattle.task_ast.specs.declared.core_form.CoreStmt.TheVariants as stmt
 use Rattle.task_ast.specs.declared.core_form.CoreTarget.{CoreTarget}
 use Rattle.task_ast.specs.declared.core_form.CoreTarget.TheVariants as target
 use Rattle.task_ast.specs.declared.core_form.CoreTask.{CoreTask}
 use Rattle.io_depend.specs.Sets.{has}
-use Rattle.io_flow.specs.Written.{AllWithin, Covers, Includes, IsIn, IsWithin, back_of, front_of, point_is_in, point_within}
+use Rattle.io_flow.specs.Written.{Covers, IsIn, IsWithin, back_of, front_of, point_is_in, point_within}
 use Rattle.walk_run.specs.declared.place.Place.{Place}
 use Rattle.walk_run.specs.declared.trap.Trap.{Trap}
 use Rattle.walk_run.specs.declared.trap.Trap.TheVariants.{Index}

@@ -16,7 +16,7 @@ use Rattle.word_code.specs.ActCode.{acts_entry}
 use Rattle.word_code.specs.Sizes.{act_size}
 use Rattle.act_refines.specs.Between.{AreRelated}
 use Rattle.act_refines.specs.Does.{frame_of}
-use Rattle.code_runs.specs.Following.{ActsRun, LeadsFrom, RunsAt}
+use Rattle.code_runs.specs.Following.{ActsRun, AnyWay, LeadsFrom, RunsAt}
 
 -- where an attempt hasn't begun yet
 abbrev pub LeadsFirst : Program → (ℕ → Place) → Doing → (Stood : machine.State → State → Type 0) → (Holds : ℕ → Spot → State → Type 0) → (most pc : ℕ) → Onward → Type 0
@@ -32,7 +32,7 @@ abbrev pub RegionsRun : Program → (ℕ → Place) → Doing → (number : ℕ)
 RegionsRun p place_of d number Stood Holds [] at next = ⊤
 RegionsRun p place_of d number Stood Holds (r ∷ rs) at next =
     let behind_at = at + act_size (frame_of d number) (act.Restore r) in
-    IfThere (nat_lt r (regions d.setting.task)) (RunsAt p place_of d number Stood Holds Holds (act.Restore r) at behind_at) × RegionsRun p place_of d number Stood Holds rs behind_at next
+    IfThere (nat_lt r (regions d.setting.task)) (RunsAt p place_of d number Stood Holds (AnyWay Holds) (act.Restore r) at behind_at) × RegionsRun p place_of d number Stood Holds rs behind_at next
 
 -- the acts of an attempt: its beginning, others, and the act of an exit at the end
 abbrev pub attempt : (task : ℕ) → List Act → CoreExit → List Act
@@ -43,4 +43,4 @@ abbrev pub AttemptRuns : Program → (ℕ → Place) → Doing → (number : ℕ
 AttemptRuns p place_of d number Stood Ready Holds t acts e at next =
     let rest = acts ++ exit_act e ∷ [] in
     let behind_at = at + act_size (frame_of d number) (act.Begin t) in
-    RunsAt p place_of d number Stood (Ready number) Holds (act.Begin t) at (acts_entry rest behind_at next) × ActsRun p place_of d number Stood Ready Holds rest behind_at next
+    RunsAt p place_of d number Stood (Ready number) (AnyWay Holds) (act.Begin t) at (acts_entry rest behind_at next) × ActsRun p place_of d number Stood Ready Holds rest behind_at next

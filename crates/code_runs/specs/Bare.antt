@@ -1,66 +1,17 @@
--- What is known of the code of acts without sites: that it does its act, and that it is cut well.
-use Rattle.std.specs.Prelude.{◌≡◌, ◌<◌, ◌≤◌, ℕ, Bool, true, false, List, [], length, slice_index_or, Some}
+-- Programs without sites.
+use Rattle.std.specs.Prelude.{◌≡◌, []}
 use Rattle.std.specs.List.{AllByRecursion}
-use Rattle.devices.specs.declared.event.Event.TheVariants as event
 use Rattle.devices.specs.declared.world.World.{World}
-use Rattle.devices.specs.Journal.{Place}
-use Rattle.io_flow.specs.Written.{Covers}
-use Rattle.task_ast.specs.Pointing.{addresses, pointing}
-use Rattle.task_ast.specs.WellFormed.{IsCoreStmt, IsOver, IsWellFormed, scope_of}
 use Rattle.task_ast.specs.declared.core_form.Core.{Core}
-use Rattle.task_ast.specs.declared.core_form.CoreExpr.{CoreExpr}
-use Rattle.task_ast.specs.declared.core_form.CoreStmt.{CoreStmt}
 use Rattle.task_attempts.specs.Boots.{rules_of}
 use Rattle.word_isa.specs.declared.parts.Scheme.{Scheme}
-use Rattle.word_isa.specs.declared.parts.Scheme.TheVariants.{Undo, Bank}
-use Rattle.word_machine.specs.Events.{event_next}
-use Rattle.word_machine.specs.State as machine
-use Rattle.word_machine.specs.State.{Program}
-use Rattle.word_machine.specs.Step.{exec}
-use Rattle.word_machine.specs.Straight.{Spot}
-use Rattle.word_machine.specs.declared.ending.Ending.TheVariants.{Running, Halted}
-use Rattle.line_code.specs.Fitting.{IsShort}
-use Rattle.line_laws.specs.Relation.{Related}
-use Rattle.run_plan.specs.declared.act.Act.{Act}
-use Rattle.run_plan.specs.declared.act.Act.TheVariants as act
-use Rattle.run_plan.specs.Cells.{State}
 use Rattle.run_plan.specs.PlanOf.{plan_of}
 use Rattle.run_plan.specs.Runs.{Planned}
-use Rattle.run_plan.specs.Small.{Doing, core_of}
-use Rattle.layout_laws.specs.Layouts.{layout_of}
-use Rattle.cell_laws.specs.Standing.{worked}
-use Rattle.act_refines.specs.Between.{AreRelated}
-use Rattle.act_refines.specs.Does.{AreHomes, DoesAct, MayCommit, Nothing, StatementFits}
-use Rattle.code_cuts.specs.Acts.{CommitsEarly, CutsAct}
 
 -- the run of a program's plan in a world
 abbrev pub planned : Core → World → Scheme → Planned
 planned c world scheme = record { rules = rules_of c world; plan = plan_of c scheme }
 
--- a machine that shows the commit behind which no task is next halts soon
-abbrev pub StopsSoon : Program → Type 0
-StopsSoon p = (e : machine.State) → e.ending ≡ Running → event_next p e ≡ Some (event.Commit 0) → (exec p 33 e).ending ≡ Halted
-
 -- no task of a program has sites
 abbrev pub IsBare : Core → Type 0
 IsBare c = AllByRecursion (λ t. t.sites ≡ []) c.tasks
-
--- the laws on each act's code in a program
-pub record BareLaws (p : Program) (place_of : ℕ → Place) : Type 0 where
-  pub restores : (d : Doing) (number r : ℕ) → r ≤ 128 → r < length d.firsts → d.scheme ≡ Undo → AreHomes (core_of d) (slice_index_or d.firsts r []) → DoesAct p place_of d number false (act.Restore r) Nothing
-  pub restores_cut : (d : Doing) (number r : ℕ) → AreHomes (core_of d) (slice_index_or d.firsts r []) → CutsAct p place_of d number false (act.Restore r) Nothing
-  pub begins : (d : Doing) (number task : ℕ) → d.scheme ≡ Undo → DoesAct p place_of d number false (act.Begin task) Nothing
-  pub begins_banks : (d : Doing) (number task : ℕ) → d.scheme ≡ Bank → DoesAct p place_of d number false (act.Begin task) Nothing
-  pub begins_cut : (d : Doing) (number task : ℕ) → CutsAct p place_of d number false (act.Begin task) Nothing
-  pub saves : (d : Doing) (number r : ℕ) → r ≤ 128 → d.scheme ≡ Undo → AreHomes (core_of d) (slice_index_or d.firsts r []) → DoesAct p place_of d number false (act.Save r) Nothing
-  pub saves_cut : (d : Doing) (number r : ℕ) → AreHomes (core_of d) (slice_index_or d.firsts r []) → CutsAct p place_of d number false (act.Save r) Nothing
-  pub locks : (d : Doing) (number r : ℕ) → r ≤ 128 → DoesAct p place_of d number false (act.Lock r) Nothing
-  pub locks_cut : (d : Doing) (number r : ℕ) → r ≤ 128 → CutsAct p place_of d number false (act.Lock r) Nothing
-  pub plains : (d : Doing) (number level : ℕ) (branched : Bool) (turning : List ℕ) (x : CoreStmt) → IsCoreStmt (scope_of (core_of d) d.setting.task) level branched turning x
-      → Covers (pointing d.setting.task) (λ q. addresses q x) → DoesAct p place_of d number false (act.Plain x) (StatementFits d x)
-  pub plains_cut : (d : Doing) (number : ℕ) (x : CoreStmt) → CutsAct p place_of d number false (act.Plain x) (StatementFits d x)
-  pub tests : (d : Doing) (number : ℕ) (e : CoreExpr) (first second : List Act) → IsOver (scope_of (core_of d) d.setting.task) e → IsShort 0 e → DoesAct p place_of d number false (act.Test e first second) Nothing
-  pub tests_cut : (d : Doing) (number : ℕ) (e : CoreExpr) (first second : List Act) → CutsAct p place_of d number false (act.Test e first second) Nothing
-  pub commits : (d : Doing) (number task : ℕ) → task < 128 → CommitsEarly p place_of d number false (act.Commit task)
-  pub commits_cut : (d : Doing) (number task : ℕ) → task < 128 → task ≤ length (core_of d).tasks → CutsAct p place_of d number false (act.Commit task) MayCommit
-  pub relates : (d : Doing) (m : Spot) (s : State) → IsWellFormed (core_of d) → AreRelated p d true m s → Related (layout_of (core_of d) (worked d.scheme s.bank)) (length (core_of d).pointers) m s.store

@@ -66,7 +66,7 @@ pub record Inside (p : Program) (place_of : ℕ → Place) (c : Core) (scheme : 
   pub whole : front ++ left ≡ atoms_of done
   pub shown : shown_by p place_of n m ≡ steps_seen c scheme front s
   pub stood : Stood (exec p n (live m)) (behind c front s)
-  pub near : IsNear c n (steps_seen c scheme front s) s (behind c front s)
+  pub near : IsNear c scheme n (steps_seen c scheme front s) s (behind c front s)
   pub on : (exec p n (live m)).ending ≢ Halted
   pub in_time : IsInTime done n most left
 
@@ -74,31 +74,35 @@ pub record Inside (p : Program) (place_of : ℕ → Place) (c : Core) (scheme : 
 pub record Passes (p : Program) (place_of : ℕ → Place) (c : Core) (scheme : Scheme) (Holds : ℕ → Spot → State → Type 0) (Related : Spot → State → Type 0) (n most pc : ℕ) (m : Spot) (atoms : List Atom) (s to : State) : Type 0 where
   pub goes : GoesOn p place_of most m pc (steps_seen c scheme atoms s) (λ there. Related there to)
   pub few : goes.steps ≤ n
-  pub near : IsNear c goes.steps (steps_seen c scheme atoms s) s to
+  pub near : IsNear c scheme goes.steps (steps_seen c scheme atoms s) s to
   pub holds : Holds (n - goes.steps) goes.there to
 
-abbrev pub PassesBy : Program → (ℕ → Place) → Core → Scheme → (Holds : ℕ → Spot → State → Type 0) → (Related : Spot → State → Type 0) → (n most : ℕ) → (to : Way → ℕ) → Spot → State → Done → Type 0
+abbrev pub PassesBy : Program → (ℕ → Place) → Core → Scheme → (Holds : Way → ℕ → Spot → State → Type 0) → (Related : Spot → State → Type 0) → (n most : ℕ) → (to : Way → ℕ) → Spot → State → Done → Type 0
 PassesBy p place_of c scheme Holds Related n most to m s (does atoms change way) =
-    Passes p place_of c scheme Holds Related n most (to way) m atoms s (change (behind c atoms s))
+    Passes p place_of c scheme (Holds way) Related n most (to way) m atoms s (change (behind c atoms s))
 PassesBy p place_of c scheme Holds Related n most to m s (fails atoms why) = ⊥
 PassesBy p place_of c scheme Holds Related n most to m s stuck = ⊥
 
 -- An act's code does its act at an address, cut anywhere, in at most so many steps: so many from its top are within it, or it has
 -- gone its way. `Before` is what is known of the machine with so many steps to go, and of the plan's state, and `After` is so behind
--- the act, whichever way it goes.
-abbrev pub RunsIn : Program → (ℕ → Place) → Doing → (number : ℕ) → (Stood : machine.State → State → Type 0) → (Before After : ℕ → Spot → State → Type 0) → (most : State → ℕ) → Act → (at next : ℕ) → Type 0
+-- the act, by the way that it goes.
+abbrev pub RunsIn : Program → (ℕ → Place) → Doing → (number : ℕ) → (Stood : machine.State → State → Type 0) → (Before : ℕ → Spot → State → Type 0) → (After : Way → ℕ → Spot → State → Type 0) → (most : State → ℕ) → Act → (at next : ℕ) → Type 0
 RunsIn p place_of d number Stood Before After most a at next =
     (n : ℕ) (m : Spot) (s : State) → m.pc ≡ at → AreRelated p d (has_begun a) m s → Before n m s
     → Inside p place_of (core_of d) d.scheme Stood n (most s) m s (act_done d a s)
     ⊎ PassesBy p place_of (core_of d) d.scheme After (RelatedBehind p d a) n (most s) (way_at (frame_of d number) a at next) m s (act_done d a s)
 
 -- within its weight
-abbrev pub RunsAt : Program → (ℕ → Place) → Doing → (number : ℕ) → (Stood : machine.State → State → Type 0) → (Before After : ℕ → Spot → State → Type 0) → Act → (at next : ℕ) → Type 0
+abbrev pub RunsAt : Program → (ℕ → Place) → Doing → (number : ℕ) → (Stood : machine.State → State → Type 0) → (Before : ℕ → Spot → State → Type 0) → (After : Way → ℕ → Spot → State → Type 0) → Act → (at next : ℕ) → Type 0
 RunsAt p place_of d number Stood Before After a at next = RunsIn p place_of d number Stood Before After (weight d a) a at next
 
 -- a commit leaves a step of its weight to the next task's stub
 abbrev pub commit_most : State → ℕ
 commit_most s = 31
+
+-- whichever way it goes
+abbrev pub AnyWay : (ℕ → Spot → State → Type 0) → Way → ℕ → Spot → State → Type 0
+AnyWay Holds way = Holds
 
 -- the way that an act goes as it ends
 abbrev pub IsWay : Done → Way → Type 0
@@ -115,25 +119,25 @@ abbrev mutual
   ActRuns p place_of d number Stood Ready Holds (act.Begin t) at next = ⊥
   ActRuns p place_of d number Stood Ready Holds (act.Test' c m yes_row n no_row) at next =
       let yes_at = at + expr_size c + 4 in
-      RunsAt p place_of d number Stood Holds Holds (act.Test' c m yes_row n no_row) at next
+      RunsAt p place_of d number Stood Holds (AnyWay Holds) (act.Test' c m yes_row n no_row) at next
       × RowRuns p place_of d number Stood Ready Holds yes_row yes_at next
       × RowRuns p place_of d number Stood Ready Holds no_row (yes_at + row_size (frame_of d number) yes_row) next
   ActRuns p place_of d number Stood Ready Holds (act.Choose' k m issue_row n keep_row) at next =
       let issue_at = at + keeps_size (site_at (frame_of d number) k) + 3 in
-      RunsAt p place_of d number Stood Holds Holds (act.Choose' k m issue_row n keep_row) at next
+      RunsAt p place_of d number Stood Holds (AnyWay Holds) (act.Choose' k m issue_row n keep_row) at next
       × RowRuns p place_of d number Stood Ready Holds issue_row issue_at next
       × RowRuns p place_of d number Stood Ready Holds keep_row (issue_at + row_size (frame_of d number) issue_row) next
   ActRuns p place_of d number Stood Ready Holds (act.Leave' k m row) at next =
-      RunsAt p place_of d number Stood Holds Holds (act.Leave' k m row) at next
+      RunsAt p place_of d number Stood Holds (AnyWay Holds) (act.Leave' k m row) at next
       × RowRuns p place_of d number Stood Ready Holds row (at + 8) next
   ActRuns p place_of d number Stood Ready Holds (act.ByClass' k l single_row m private_row n rest_row) at next =
       let private_at = at + 12 + row_size (frame_of d number) single_row in
-      RunsAt p place_of d number Stood Holds Holds (act.ByClass' k l single_row m private_row n rest_row) at next
+      RunsAt p place_of d number Stood Holds (AnyWay Holds) (act.ByClass' k l single_row m private_row n rest_row) at next
       × RowRuns p place_of d number Stood Ready Holds single_row (at + 12) next
       × RowRuns p place_of d number Stood Ready Holds private_row private_at next
       × RowRuns p place_of d number Stood Ready Holds rest_row (private_at + row_size (frame_of d number) private_row) next
-  ActRuns p place_of d number Stood Ready Holds (act.Commit t) at next = RunsIn p place_of d number Stood Holds (Ready t) commit_most (act.Commit t) at next × (t ≤ length (core_of d).tasks)
-  ActRuns p place_of d number Stood Ready Holds a at next = RunsAt p place_of d number Stood Holds Holds a at next
+  ActRuns p place_of d number Stood Ready Holds (act.Commit t) at next = RunsIn p place_of d number Stood Holds (AnyWay (Ready t)) commit_most (act.Commit t) at next × (t ≤ length (core_of d).tasks)
+  ActRuns p place_of d number Stood Ready Holds a at next = RunsAt p place_of d number Stood Holds (AnyWay Holds) a at next
 
   -- those of a row, each where the row has it and before what comes next in it
   pub RowRuns : Program → (ℕ → Place) → Doing → (number : ℕ) → (Stood : machine.State → State → Type 0) → (Ready : ℕ → ℕ → Spot → State → Type 0) → (Holds : ℕ → Spot → State → Type 0) → {n : _} → Row_of-Act n → (at next : ℕ) → Type 0

@@ -115,9 +115,10 @@ module _ (c : Core) (world : World) (shows_none : (t : CoreTask) (s : CoreStmt) 
     boots_plain : (cuts : List ℕ) (s : Standing) → AllByRecursion (AllByRecursion IsPlain) (map events_in (boots_from (rules_of c world) cuts s))
     unfolding boots_from boot_log
     boots_plain [] s = tt
-    boots_plain (cut ∷ cuts) s =
-        (events_plain (take cut (attempts_log (rules_of c world) cut (booted (rules_of c world) s))) (taken_plain cut (attempts_log (rules_of c world) cut (booted (rules_of c world) s)) (attempts_plain cut (booted (rules_of c world) s))),
-        boots_plain cuts (left_by (rules_of c world) cut s))
+    boots_plain (cut ∷ cuts) s = (
+      events_plain (take cut (attempts_log (rules_of c world) cut (booted (rules_of c world) s))) (taken_plain cut (attempts_log (rules_of c world) cut (booted (rules_of c world) s)) (attempts_plain cut (booted (rules_of c world) s))),
+      boots_plain cuts (left_by (rules_of c world) cut s),
+    )
 
 -- ---- nothing to seal
 

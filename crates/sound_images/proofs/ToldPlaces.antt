@@ -107,8 +107,10 @@ module _ (c : Core) (well : IsWellFormed c) where
             let shifted : shift a.kind far ≡ 2048 = ap (λ k. shift k far) own_kind ∙ both.1 in
             record {
               second = true;
-              is_in = (past_range (code.base_of lies) lies.room (address_in c bank at) (omega (arith, base, from, both.0, room, few is)),
-              in_range (code.base_of lies + shift a.kind far) lies.room (address_in c bank at) (omega (arith, base, from, both.0, shifted)) (omega (arith, base, from, both.0, shifted, room, inside)));
+              is_in = (
+                past_range (code.base_of lies) lies.room (address_in c bank at) (omega (arith, base, from, both.0, room, few is)),
+                in_range (code.base_of lies + shift a.kind far) lies.room (address_in c bank at) (omega (arith, base, from, both.0, shifted)) (omega (arith, base, from, both.0, shifted, room, inside)),
+              );
               index = omega (arith, base, from, both.0, shifted);
             }
     by_kind a Const own_kind is =
