@@ -1,4 +1,5 @@
 mod AllowedRows
+mod CopyLaws
 mod FittingLaws
 mod LeafLaws
 mod SameLaws
