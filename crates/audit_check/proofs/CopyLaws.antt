@@ -1,11 +1,10 @@
 -- Copies go along the rules.
-use Rattle.std.proofs.Common.{◌≡◌, ℕ, ◌<◌, List, [], ◌∷◌, length, Option, Some, None, Ok, Err, refl, sym, ap, ◌∙◌, subst}
+use Rattle.std.proofs.Common.{◌≡◌, ℕ, ◌<◌, List, [], length, Option, Some, None, Ok, Err, refl, sym, ap, subst}
 use Rattle.std.specs.Option.{option_map}
 use Rattle.task_ast.specs.declared.core_form.CoreExpr.{CoreExpr}
 use Rattle.task_ast.specs.declared.core_form.CoreEnd.{CoreEnd}
 use Rattle.region_split.specs.declared.class.DmaClass.{DmaClass}
 use Rattle.region_split.specs.declared.class.DmaClass.TheVariants as class
-use Rattle.region_split.specs.Class.{class_of}
 use Rattle.region_split.specs.Regions.{region_of}
 use Rattle.walk_run.specs.declared.place.Place.{Place}
 use Rattle.walk_run.specs.Store.{Store}
@@ -26,7 +25,6 @@ use Rattle.task_attempts.specs.Values.{value}
 use Rattle.task_attempts.specs.Copies as rules
 use Rattle.task_attempts.specs.Copies.{words_at, put_words, shown, copy_valued, class_at, copy_by_class, copy_by_record, copy_log}
 use Rattle.audit_check.specs.declared.journal.TimedEvent.{TimedEvent}
-use Rattle.audit_check.specs.declared.walking.Kept.{Kept}
 use Rattle.audit_check.specs.declared.walking.Kept.TheVariants as kept
 use Rattle.audit_check.specs.declared.around.Around.{Around}
 use Rattle.audit_check.specs.Leads.{Reached}

@@ -1,4 +1,5 @@
 mod AllowedRows
+mod AttemptWalks
 mod CopyLaws
 mod FittingLaws
 mod LeafLaws
