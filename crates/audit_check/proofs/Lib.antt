@@ -1,4 +1,6 @@
 mod AllowedRows
+mod AttemptWalks
+mod CopyLaws
 mod FittingLaws
 mod LeafLaws
 mod SameLaws

@@ -61,23 +61,23 @@ module _ (feeds : List Feed) where
       w here s go at knows
 
   -- a step of which it is known where it leads, and then what its value asks for
-  then_at : {A B : Type 0} (part : A → (B → Rest) → Rest) (next : A → Walking → Way B) (go : B → Rest) (w : Walking) (s : Standing) (f : Awaited) (way : Way A)
+  pub then_at : {A B : Type 0} (part : A → (B → Rest) → Rest) (next : A → Walking → Way B) (go : B → Rest) (w : Walking) (s : Standing) (f : Awaited) (way : Way A)
       → Reached (events w.rest) s f (Follows feeds way (λ x. part x go)) → ((x : A) → Tracks feeds (part x) (next x)) → Reached (events w.rest) s f (Follows feeds (chain way next) go)
   then_at part next go w s f way one more =
       leads_then one.0 (events w.rest) s f (Follows feeds way (λ x. part x go)) (Follows feeds (chain way next) go) one.1 (behind feeds part next go way more)
 
   -- a part that begins with some steps
-  spending : {A : Type 0} (n : ℕ) (part : (A → Rest) → Rest) (step : Walking → Way A) → Tracks feeds part step → Tracks feeds (λ go here. part go (spent n here)) step
+  pub spending : {A : Type 0} (n : ℕ) (part : (A → Rest) → Rest) (step : Walking → Way A) → Tracks feeds part step → Tracks feeds (λ go here. part go (spent n here)) step
   spending n part step tracks w here s go at knows =
       tracks w (spent n here) s go (record { knows = at.knows; store = at.store; mode = at.mode }) knows
 
   -- what is found in the store, or a trap
-  found_there : {A : Type 0} (what : Store → Result A Trap) (n : ℕ) → Tracks feeds (λ go here. unless_trap (what here.store) go (spent n here)) (λ w. found (what w.store) w)
+  pub found_there : {A : Type 0} (what : Store → Result A Trap) (n : ℕ) → Tracks feeds (λ go here. unless_trap (what here.store) go (spent n here)) (λ w. found (what w.store) w)
   found_there what n w here s go at knows =
       subst (λ store. Reached (events w.rest) s (from_here (λ here. unless_trap (what here.store) go (spent n here)) here) (Follows feeds (found (what store) w) go)) at.store
       (found_tracks feeds (what here.store) go w (spent n here) s (record { knows = at.knows; store = at.store; mode = at.mode }) knows)
 
-  handed_on : {A B : Type 0} (part : (A → Rest) → Rest) (step : Walking → Way A) (y : A → B) → Tracks feeds part step → Tracks feeds (λ go. part (λ x. go (y x))) (λ w. chain (step w) (λ x w. moved (y x) w))
+  pub handed_on : {A B : Type 0} (part : (A → Rest) → Rest) (step : Walking → Way A) (y : A → B) → Tracks feeds part step → Tracks feeds (λ go. part (λ x. go (y x))) (λ w. chain (step w) (λ x w. moved (y x) w))
   handed_on part step y tracks w here s go at knows =
       let one = tracks w here s (λ x. go (y x)) at knows in
       leads_then one.0 (events w.rest) s (from_here (part (λ x. go (y x))) here) (Follows feeds (step w) (λ x. go (y x))) (Follows feeds (chain (step w) (λ x w. moved (y x) w)) go) one.1
@@ -180,7 +180,7 @@ kept_time (Some (of_copy class to from words)) = refl
 
 module _ (feeds : List Feed) where
   -- another mode, and another store
-  knows_as : (w v : Walking) (s : Standing) → v.feeds ≡ w.feeds → v.committed ≡ w.committed → v.next ≡ w.next → v.records ≡ w.records → v.issued ≡ w.issued → Knows feeds w s → Knows feeds v s
+  pub knows_as : (w v : Walking) (s : Standing) → v.feeds ≡ w.feeds → v.committed ≡ w.committed → v.next ≡ w.next → v.records ≡ w.records → v.issued ≡ w.issued → Knows feeds w s → Knows feeds v s
   knows_as w v s readings committed next records issued n = record {
     readings = readings ∙ n.readings;
     committed = n.committed ∙ sym committed;

@@ -1,6 +1,6 @@
 -- The walk of a call, a block, a copy, a statement and an attempt.
-use Rattle.std.specs.Prelude.{◌≡◌, ℕ, List, [], ◌∷◌, length, Option, Some, None, Err, slice_get, filter}
-use Rattle.std.specs.List.{range_with_len}
+use Rattle.std.specs.Prelude.{◌≡◌, ℕ, ◌<◌, List, [], ◌∷◌, length, Option, Some, None, Err, slice_get, filter}
+use Rattle.std.specs.List.{range_with_len, AllByRecursion}
 use Rattle.task_ast.specs.declared.tree.Ann.{Ann}
 use Rattle.task_ast.specs.declared.core_form.CoreExpr.{CoreExpr}
 use Rattle.task_ast.specs.declared.core_form.CoreTarget.{CoreTarget}
@@ -53,6 +53,10 @@ setting_of world a = record { rules = record { core = a.core.now; world = world 
 -- the sites that are told to depend on a site are those that do
 abbrev pub DropsRight : Around → (site : ℕ) → Type 0
 DropsRight a k = filter (tells_later a.depends.now k) (range_with_len 1 (length a.task.now.sites)) ≡ dependents a.task.now k
+
+-- So it is of all these sites, which are few enough for the records.
+abbrev pub SitesRight : Around → (sites : List ℕ) → Type 0
+SitesRight a sites = AllByRecursion (λ k. (k < 129) × DropsRight a k) sites
 
 -- ---- calls
 
@@ -203,7 +207,14 @@ committed_by next w = record w { committed = w.store; next = next; records = non
 unfoldable pub commit_walked : (next : ℕ) → Walking → Way (Unit {0})
 commit_walked next w = chain (taken (commits next) w) (λ _ w. moved tt (committed_by next w))
 
+-- the begin of an attempt
+unfoldable pub begin_walked : Around → Walking → Way (Unit {0})
+begin_walked a w = chain (taken (begins w.next) w) (λ _ w. moved tt (begun a w))
+
+-- where an exit leads
+unfoldable pub exit_walked : Around → Walking → Way ℕ
+exit_walked a w = found (next_of a.task.now.exit w.store) w
+
 -- an attempt
 unfoldable pub attempt_walked : Around → Walking → Way (Unit {0})
-attempt_walked a w =
-    chain (taken (begins w.next) w) (λ _ w. chain (body_walked a a.task.now.body (begun a w)) (λ _ w. chain (found (next_of a.task.now.exit w.store) w) (λ next w. commit_walked next w)))
+attempt_walked a w = chain (begin_walked a w) (λ _ w. chain (body_walked a a.task.now.body w) (λ _ w. chain (exit_walked a w) (λ next w. commit_walked next w)))
