@@ -1,0 +1,3 @@
+mod Halting
+mod Idling
+mod Worlds
