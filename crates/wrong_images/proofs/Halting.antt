@@ -2,7 +2,6 @@
 use Rattle.std.proofs.Common.{◌≡◌, ℕ, List, [], ◌∷◌, refl, subst}
 use Rattle.devices.specs.Journal.{Journal, Place}
 use Rattle.devices.specs.Reading.{values_in}
-use Rattle.devices.specs.World.{IsWithinLimits}
 use Rattle.devices.specs.declared.event.RunEnd.TheVariants as ended
 use Rattle.power_trace.specs.Report.{place_in}
 use Rattle.sound_images.specs.Sound.{IsSound}
@@ -16,7 +15,7 @@ use Rattle.word_machine.specs.Events.{event_next, stepped_next}
 use Rattle.word_machine.specs.Runs.{boots, journal, last_ending, numbered, steps_done, total_steps}
 use Rattle.word_machine.specs.State.{program_of, start}
 use Rattle.word_machine.specs.Step.{exec, fail, step}
-use Rattle.wrong_images.proofs.Worlds.{lasting}
+use Rattle.wrong_images.proofs.Worlds.{brief_within, lasting}
 
 -- HALT
 abbrev pub halt : List ℕ
@@ -32,9 +31,9 @@ unfolding decoded event_next stepped_next boots last_ending numbered steps_done 
 halts place_of fram = refl
 
 -- so a task is next where it halts
-pub halting_isn't_sound : (c : Core) (scheme : Scheme) (i : Image) → i.code ≡ halt → i.marks ≡ [] → IsWithinLimits (lasting 2) → IsSound c scheme i → ⊥
-halting_isn't_sound c scheme i code marks limits sound =
-    let ends = (sound.runs (lasting 2) limits).keeps.ends in
+pub halting_isn't_sound : (c : Core) (scheme : Scheme) (i : Image) → i.code ≡ halt → i.marks ≡ [] → IsSound c scheme i → ⊥
+halting_isn't_sound c scheme i code marks sound =
+    let ends = (sound.runs (lasting 2) brief_within).keeps.ends in
     let by_code = subst (λ code. let j = journal_by code i.marks 2 (place_in i) i.fram in AllEndWell 1 j.steps j.boots j.ending) code ends in
     let by_marks = subst (λ marks. let j = journal_by halt marks 2 (place_in i) i.fram in AllEndWell 1 j.steps j.boots j.ending) marks by_code in
     subst (λ j. AllEndWell 1 j.steps j.boots j.ending) (halts (place_in i) i.fram) by_marks

@@ -1,7 +1,6 @@
 -- An image that jumps in place is not sound: the first event doesn't come in time (`in_time`).
 use Rattle.std.proofs.Common.{◌≡◌, ℕ, zero, suc, ◌+◌, ◌≤◌, List, [], ◌∷◌, ap, refl, subst, sym, arith, if◌then◌else◌}
 use Rattle.devices.specs.Journal.{Journal, JournalEvent, Place}
-use Rattle.devices.specs.World.{IsWithinLimits}
 use Rattle.devices.specs.Reading.{values_in}
 use Rattle.devices.specs.declared.world.PowerRow.{PowerRow}
 use Rattle.power_trace.specs.Report.{place_in}
@@ -23,7 +22,7 @@ use Rattle.word_machine.specs.declared.ending.Ending.{Ending}
 use Rattle.word_machine.specs.declared.ending.Ending.TheVariants.{Running}
 use Rattle.word_machine.specs.Step.{exec, fail, fail_at, step}
 use Rattle.wrong_images.proofs.Halting.{journal_by}
-use Rattle.wrong_images.proofs.Worlds.{lasting}
+use Rattle.wrong_images.proofs.Worlds.{lasting, long_within, row_of}
 use denote.Hole.Carrier.{hidden}
 
 -- task t { STOP; }
@@ -71,9 +70,6 @@ of_one_boot events how last steps = record {
   ending = end_of last;
 }
 
-abbrev row_of : (steps : ℕ) → PowerRow
-row_of n = record { on = n; off = 0; fill = 0 }
-
 idles : (place_of : ℕ → Place) (fram : List ℕ) (n : ℕ) → journal_by jump [] n place_of fram ≡ of_one_boot [] Running Running n
 unfolding boots total_steps last_ending
 idles place_of fram n =
@@ -90,9 +86,9 @@ unfolding hidden-the_row-CoreExit-0 shape-the_row-CoreExit-0 hidden stopping cos
 late Undo h = let far : 201 ≤ 144 = h.0 in omega (arith, far)
 late Bank h = let far : 201 ≤ 128 = h.0 in omega (arith, far)
 
-pub idling_isn't_sound : (scheme : Scheme) (i : Image) → i.code ≡ jump → i.marks ≡ [] → IsWithinLimits (lasting 200) → IsSound stopping scheme i → ⊥
-idling_isn't_sound scheme i code marks limits sound =
+pub idling_isn't_sound : (scheme : Scheme) (i : Image) → i.code ≡ jump → i.marks ≡ [] → IsSound stopping scheme i → ⊥
+idling_isn't_sound scheme i code marks sound =
     let rules = rules_of stopping (lasting 200) in
-    let by_code = subst (λ code. IsInTime rules scheme (journal_by code i.marks 200 (place_in i) i.fram)) code (sound.runs (lasting 200) limits).keeps.in_time in
+    let by_code = subst (λ code. IsInTime rules scheme (journal_by code i.marks 200 (place_in i) i.fram)) code (sound.runs (lasting 200) long_within).keeps.in_time in
     let by_marks = subst (λ marks. IsInTime rules scheme (journal_by jump marks 200 (place_in i) i.fram)) marks by_code in
     late scheme (subst (λ j. IsInTime rules scheme j) (idles (place_in i) i.fram 200) by_marks)
