@@ -1,0 +1,5 @@
+pub mod Attempts
+pub mod Claims
+pub mod Finding
+pub mod Lying
+pub mod Statements
