@@ -44,6 +44,10 @@ pub by_place : (sites : List Site) (k : ℕ) (x : Site) → site_at sites k ≡ 
 by_place sites zero x there = absurd (cc there)
 by_place sites (suc k) x there = let same : suc k - 1 ≡ k = omega arith in ap (slice_get sites) same ∙ there
 
+pub to_site : (sites : List Site) (k : ℕ) (x : Site) → IsSite k → slice_get sites (k - 1) ≡ Some x → site_at sites k ≡ Some x
+to_site sites zero x is there = let from : 1 ≤ 0 = is.from in absurd (omega (arith, from))
+to_site sites (suc k) x is there = let same : suc k - 1 ≡ k = omega arith in ap (slice_get sites) (sym same) ∙ there
+
 -- the sites of a task are within the limit
 pub numbered : (t : CoreTask) (k : ℕ) → length t.sites ≤ 128 → IsSiteOf t k → IsSite k
 numbered t k few is = record { from = omega (arith, is.0); few = omega (arith, is.1, few) }

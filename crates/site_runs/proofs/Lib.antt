@@ -1,4 +1,5 @@
 pub mod Attempts
+pub mod Blocks
 pub mod Claims
 pub mod Finding
 pub mod Lying
