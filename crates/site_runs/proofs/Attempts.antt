@@ -1,13 +1,10 @@
 -- The attempts of a task lead on, with the sites of its statements.
-use Rattle.std.specs.Prelude.{◌≢◌, length, Option, Some, None}
-use Rattle.std.specs.List.{AllByRecursion, range_with_len}
+use Rattle.std.specs.Prelude.{◌≢◌, Option, Some, None}
 use Rattle.std.proofs.Common.{◌≡◌, ◌∙◌, ℕ, suc, ◌+◌, ◌≤◌, true, false, List, [], ◌∷◌, ◌++◌, refl, sym, ap, subst, arith}
-use Rattle.std.proofs.lemmas.List.FromFn.{length-range_with_len}
 use Rattle.devices.specs.Journal.{Place}
 use Rattle.io_annot.specs.declared.choice.Mode.{Mode}
 use Rattle.io_annot.specs.declared.choice.Mode.TheVariants.{Own}
 use Rattle.region_split.specs.Owners.{all_first}
-use Rattle.task_ast.specs.CoreSites.{all_numbers}
 use Rattle.task_ast.specs.WellFormed.{IsCoreTask, IsWellFormed}
 use Rattle.task_ast.specs.declared.core_form.Core.{Core}
 use Rattle.task_ast.specs.declared.core_form.CoreExit.{CoreExit, end_of-CoreExit, more_of-CoreExit}
@@ -27,8 +24,6 @@ use Rattle.run_plan.specs.Small.{Doing, core_of}
 use Rattle.word_code.specs.ActCode.{acts_entry}
 use Rattle.word_code.specs.Frames as frames
 use Rattle.word_code.specs.Sizes.{act_size, acts_size}
-use Rattle.word_code.proofs.SiteLaws.{body_finds}
-use Rattle.plan_laws.specs.PlacedSites.{Next, task_placed}
 use Rattle.code_places.specs.Placed.{ActsLie}
 use Rattle.act_refines.specs.Between.{AreRelated}
 use Rattle.act_refines.specs.Does.{frame_of}
@@ -48,7 +43,7 @@ use Rattle.site_runs.specs.Bodies.{BlocksLead}
 use Rattle.site_runs.specs.Copies.{CopiesLead}
 use Rattle.site_runs.proofs.Claims.{in_claim}
 use Rattle.site_runs.proofs.Lying.{entered, lies_parts}
-use Rattle.site_runs.proofs.Statements.{body_leads}
+use Rattle.site_runs.proofs.Statements.{task_body_leads}
 
 -- a mode that is there
 made : (o : Option Mode) (m : Mode) → o ≡ Some m → o ≢ None
@@ -92,10 +87,6 @@ module _ (p : Program) (place_of : ℕ → Place) (law : BareLaws p place_of) (d
   starts : Starts p place_of law d number well here Outside
   starts n m s known within frame = record { common = known; within = within; mode = made s.frame.mode Own (ap (λ (f : Frame). f.mode) frame); around = tt }
 
-  -- its sites are the first
-  numbers_next : Next 0 (all_numbers t.body)
-  numbers_next = formed.sites.numbers ∙ ap (range_with_len 1) (sym (ap length formed.sites.numbers ∙ length-range_with_len 1 (length t.sites)))
-
   -- the acts of a task
   pub attempt_leads : (at : ℕ) → ActsLie p f false (task_acts d.scheme number t) at 0 → LeadsFirst p place_of d Now (Ready number) (suc most) at (acts_run d again (task_acts d.scheme number t) nothing)
   attempt_leads at lies =
@@ -110,8 +101,7 @@ module _ (p : Program) (place_of : ℕ → Place) (law : BareLaws p place_of) (d
       let exit_runs : ActRuns p place_of d number Now Ready Outside (exit_act t.exit) end_at 0 = exits p place_of law d number well here formed firsts Outside claim t.exit 1 formed.exit end_at 0 parts.1.0 in
       let exit_leads : LeadsOn p place_of d Outside (suc most) end_at (acts_run d again ends nothing) = exiting t.exit end_at 0 exit_runs in
       let body_so : LeadsOn p place_of d Outside (suc most) (acts_entry body body_at end_at) (acts_run d again body (acts_run d again ends nothing)) =
-      body_leads p place_of law d number well here formed calls copies blocks_lead [] t.body 1 false formed.body 0 numbers_next (task_placed c.arrays t formed.sites) (λ q n there. there) (λ j x less is. is)
-      (body_finds t.body 1 (length t.sites) formed.sites.numbers) tt most body_at end_at again (acts_run d again ends nothing) front.1 exit_leads in
+      task_body_leads p place_of law d number well here formed calls copies blocks_lead most body_at end_at again (acts_run d again ends nothing) front.1 exit_leads in
       let saves_so : LeadsOn p place_of d Outside (suc most) (acts_entry saves behind_at (acts_entry body body_at end_at)) (acts_run d again saves (acts_run d again body (acts_run d again ends nothing))) =
       acts_follow p place_of d number Now Ready Outside most again leads saves behind_at (acts_entry body body_at end_at) (acts_run d again body (acts_run d again ends nothing))
       (all_run p place_of law d number well here formed firsts Outside claim saves behind_at (acts_entry body body_at end_at) (save_where p place_of law d number well here formed firsts Outside claim d.scheme 0 (omega arith) refl) front.0) body_so in

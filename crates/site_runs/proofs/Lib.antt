@@ -3,4 +3,5 @@ pub mod Blocks
 pub mod Claims
 pub mod Finding
 pub mod Lying
+pub mod Programs
 pub mod Statements

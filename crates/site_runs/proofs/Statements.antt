@@ -1,8 +1,9 @@
 -- The acts of statements lead on, inside whatever blocks: one induction over the statements of a body.
 use Rattle.std.specs.Prelude.{Some, None, length, Option}
-use Rattle.std.specs.List.{AllByRecursion}
+use Rattle.std.specs.List.{AllByRecursion, range_with_len}
 use Rattle.std.proofs.Common.{◌≡◌, ◌∙◌, ℕ, suc, ◌+◌, ◌<◌, ◌≤◌, Bool, true, false, ◌==◌, cond, List, [], ◌∷◌, ◌++◌, refl, sym, ap, subst, arith}
 use Rattle.std.proofs.lemmas.List.{length-append}
+use Rattle.std.proofs.lemmas.List.FromFn.{length-range_with_len}
 use Rattle.devices.specs.Journal.{Place}
 use Rattle.io_flow.specs.Written.{Covers, back_of, front_of}
 use Rattle.task_ast.specs.CoreSites.{all_numbers, all_standings, greatest, row_numbers, row_standings, site_numbers, standings}
@@ -41,7 +42,7 @@ use Rattle.word_code.specs.Frames.{Frame}
 use Rattle.word_code.specs.Sizes.{row_size}
 use Rattle.word_code.proofs.ShortLaws.{expr_short}
 use Rattle.word_code.proofs.SiteLaws as code
-use Rattle.plan_laws.specs.PlacedSites.{Next, Placed, back_next, first_next, front_next, placed_parts, row_long, same_long}
+use Rattle.plan_laws.specs.PlacedSites.{Next, Placed, back_next, first_next, front_next, placed_parts, row_long, same_long, task_placed}
 use Rattle.code_places.specs.Placed.{ActsLie}
 use Rattle.act_laws.specs.Words.{FitsLimit}
 use Rattle.act_refines.specs.Between.{AreRelated}
@@ -222,3 +223,9 @@ module _ (p : Program) (place_of : ℕ → Place) (law : BareLaws p place_of) (d
         (stmt_leads blocks s level branched w.0 q front parts.0 (λ r. front_of (addresses r s) (all_addresses r body) (pointing t r) (covers r)) (found_front Has q (λ j. found_in j s) (λ j. found_among j body) found) laid.0 few)
         (body_leads blocks body level branched w.1 (q + length ks) back parts.1 (λ r. back_of (addresses r s) (all_addresses r body) (pointing t r) (covers r))
         (found_back Has q (length ks) (λ j. found_in j s) (λ j. found_among j body) (λ j less. beyond s q front j less) found) laid.1 (all_up_to q (q + length ks) blocks (omega arith) few))
+
+    -- those of the task, in no block
+    pub task_body_leads : ActsLead p place_of d number [] (body_acts a t.body)
+    task_body_leads =
+        body_leads [] t.body 1 false formed_task.body 0 (formed_task.sites.numbers ∙ ap (range_with_len 1) (sym (ap length formed_task.sites.numbers ∙ length-range_with_len 1 (length t.sites)))) (task_placed c.arrays t formed_task.sites)
+        (λ q n there. there) (λ j x less is. is) (code.body_finds t.body 1 (length t.sites) formed_task.sites.numbers) tt
