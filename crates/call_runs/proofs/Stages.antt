@@ -51,7 +51,7 @@ module _ (p : Program) (place_of : ℕ → Place) (d : Doing) (number k : ℕ) (
 pub something : {A : Type 0} (a : A) → Some a ≢ None
 something a is = cc
 
-given : {A : Type 0} → A → Option A → A
+abbrev given : {A : Type 0} → A → Option A → A
 given a None = a
 given a (Some b) = b
 
