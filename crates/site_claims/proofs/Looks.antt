@@ -67,7 +67,7 @@ seen_then : (p : Program) (place_of : ℕ → Place) (n k : ℕ) (m : Spot) → 
 seen_then p place_of n k m = ap (trace_seen place_of) (trace_more p n k (live m)) ∙ seen_more place_of (trace.trace p n (live m)) (trace.trace p k (exec p n (live m)))
 
 -- a front of one thing that is seen is nothing, or begins with it
-first_of : List Seen → Seen → Seen
+abbrev first_of : List Seen → Seen → Seen
 first_of [] x = x
 first_of (y ∷ ys) x = y
 
