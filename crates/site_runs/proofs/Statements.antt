@@ -1,5 +1,5 @@
 -- The acts of statements lead on, inside whatever blocks: one induction over the statements of a body.
-use Rattle.std.specs.Prelude.{Some, None, length, Option}
+use Rattle.std.specs.Prelude.{◌-◌, Some, None, length, Option}
 use Rattle.std.specs.List.{AllByRecursion, range_with_len}
 use Rattle.std.proofs.Common.{◌≡◌, ◌∙◌, ℕ, suc, ◌+◌, ◌<◌, ◌≤◌, Bool, true, false, ◌==◌, cond, List, [], ◌∷◌, ◌++◌, refl, sym, ap, subst, arith}
 use Rattle.std.proofs.lemmas.List.{length-append}
@@ -158,7 +158,7 @@ module _ (p : Program) (place_of : ℕ → Place) (law : BareLaws p place_of) (d
           or_plain blocks (ks ++ ls) (stmt.If' e m yes_row n no_row) (act.Test e (row_acts a yes_row) (row_acts a no_row)) (λ none. plain_leads blocks level branched (stmt.If' e m yes_row n no_row) none w covers)
           (test_leads blocks e (row_acts a yes_row) (row_acts a no_row) w.1 yes_so no_so)
       stmt_leads blocks (stmt.Loop' i turns m row) level branched w q next placed covers found laid few = plain_leads blocks level branched (stmt.Loop' i turns m row) w.4 w covers
-      stmt_leads blocks (stmt.Io k x r args) level branched w q next placed covers found laid few most at onward again go lies on =
+      stmt_leads blocks (stmt.Io k x r args) level branched w q next placed covers found laid few = λ most at onward again go lies on.
           let is = first_next k [] q next in
           let call = call_there (site_at t.sites k) placed.0.1 in
           calls k x r args
@@ -180,7 +180,7 @@ module _ (p : Program) (place_of : ℕ → Place) (law : BareLaws p place_of) (d
           let inner : AllByRecursion (λ j. j ≤ q + 1) (k ∷ blocks) = (omega (arith, is), all_up_to q (q + 1) blocks (omega arith) few) in
           blocks_lead k blocks (row_acts a row) (record { ann = block.0; numbered = numbered t k few_sites placed.0.0; there = by_place t.sites k (site.Block block.0) block.1; limit = block_fits k block.0 block.1 }) (all_less q k blocks (omega (arith, is)) few)
           (row_leads (k ∷ blocks) row (1 + level) branched w.1 (q + 1) (back_next (k ∷ []) (row_numbers row) q next) placed.1 covers (found_inside Has q k (stmt.Block' k m row) (λ j. found_in_row j row) is found) laid inner)
-      stmt_leads blocks (stmt.Copy k to from n) level branched w q next placed covers found laid few most at onward again go lies on =
+      stmt_leads blocks (stmt.Copy k to from n) level branched w q next placed covers found laid few = λ most at onward again go lies on.
           let is = first_next k [] q next in
           let greatest_length : ℕ = greatest c.arrays (pointing t) to from in
           copies k to from n
