@@ -90,7 +90,7 @@ module _ (p : Program) (place_of : ℕ → Place) (law : CallLaws p place_of) (d
   value_does : (o : Option CoreTarget) → IsCallOf d number k o q args → DoesAct p place_of d number false (act.Value k) (Aims o)
   value_does None h = law.values d number k q args h.said h.laid (arguments_short (scope_of (core_of d) d.setting.task) (few_pointers (core_of d) well) args h.formed.4) h.formed.3
   value_does (Some target) h =
-      law.values_aimed d number k q target args h.said h.laid (target_over (scope_of (core_of d) d.setting.task) (few_pointers (core_of d) well) h.turning target h.formed.1)
+      law.values_aimed d number k q target args h.said h.laid (target_over (scope_of (core_of d) d.setting.task) (few_pointers (core_of d) well) h.turning target (h.formed.1 target refl))
       (arguments_short (scope_of (core_of d) d.setting.task) (few_pointers (core_of d) well) args h.formed.4) h.formed.3
 
   sound : (m : Spot) (s : State) → AreRelated p d true m s → AllWithin (pointing d.setting.task) s.store → IsSound (core_of d) (pointing d.setting.task) s.store
@@ -98,7 +98,7 @@ module _ (p : Program) (place_of : ℕ → Place) (law : CallLaws p place_of) (d
 
   value_asks : (o : Option CoreTarget) → IsCallOf d number k o q args → (m : Spot) (s : State) → AreRelated p d true m s → AllWithin (pointing d.setting.task) s.store → Aims o m s
   value_asks None h m s related within = tt
-  value_asks (Some target) h m s related within = λ at is. target_aims (core_of d) d.setting.task h.turning target s.store (sound m s related within) h.formed.1 at is
+  value_asks (Some target) h m s related within = λ at is. target_aims (core_of d) d.setting.task h.turning target s.store (sound m s related within) (h.formed.1 target refl) at is
 
   value_keeps : (n : ℕ) (m : Spot) (s : State) → Claim n m s → (r : Result (Option walked.Place) Trap) → IsAimed (aims x) r → (rs : Result (List ℕ) Trap) → IsLong (length args) rs
       → Keeps p place_of d number (AnyWay AfterValue) n m s (unless_fails r (λ at. unless_fails rs (λ words. sets_frame (record s.frame { target = Some at; args = Some words }))))
