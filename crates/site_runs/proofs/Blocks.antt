@@ -140,13 +140,13 @@ module _ (p : Program) (place_of : ℕ → Place) (law : BlockLaws p place_of) (
         within = h.0.within;
         mode = something (entered x (annotation d.setting k) (stamp_held s k) time);
         around = (
-            record {
-              begun = subst (λ o. o ≢ None) (sym (put_here k (Some time) s.frame.begun)) (something time);
-              outer = subst (λ o. o ≢ None) (sym (put_here k (Some x) s.frame.outer)) (something x);
-              past = λ u now. (let past : u ≤ m.clock = h.1.past u (is ∙ sym (put_here k (Some time) s.frame.begun) ∙ now) in omega (arith, past, on));
-            },
-            all_around (λ j. j < k) blocks m there s _ on (λ j less. put_other k j (Some time) s.frame.begun (λ same. omega (arith, less, same))) (λ j less. put_other k j (Some x) s.frame.outer (λ same. omega (arith, less, same))) earlier h.0.around,
-          );
+          record {
+            begun = subst (λ o. o ≢ None) (sym (put_here k (Some time) s.frame.begun)) (something time);
+            outer = subst (λ o. o ≢ None) (sym (put_here k (Some x) s.frame.outer)) (something x);
+            past = λ u now. (let past : u ≤ m.clock = h.1.past u (is ∙ sym (put_here k (Some time) s.frame.begun) ∙ now) in omega (arith, past, on));
+          },
+          all_around (λ j. j < k) blocks m there s _ on (λ j less. put_other k j (Some time) s.frame.begun (λ same. omega (arith, less, same))) (λ j less. put_other k j (Some x) s.frame.outer (λ same. omega (arith, less, same))) earlier h.0.around,
+        );
       }
 
   leave_keeps : (blocks : List ℕ) (k n : ℕ) (m : Spot) (s : State) → Inside (k ∷ blocks) n m s → (o u : Option Mode)

@@ -36,9 +36,9 @@ in_claim p place_of d number blocks = record {
   common = λ n m s h. h.common;
   within = λ n m s h. h.within;
   kept = λ n k m there s to h later frame common within. record {
-      common = common;
-      within = within;
-      mode = subst (λ (f : Frame). f.mode ≢ None) (sym frame) h.mode;
-      around = ever_around blocks m there s to later (λ j. ap (λ (f : Frame). f.begun j) frame) (λ j. ap (λ (f : Frame). f.outer j) frame) h.around;
-    };
+    common = common;
+    within = within;
+    mode = subst (λ (f : Frame). f.mode ≢ None) (sym frame) h.mode;
+    around = ever_around blocks m there s to later (λ j. ap (λ (f : Frame). f.begun j) frame) (λ j. ap (λ (f : Frame). f.outer j) frame) h.around;
+  };
 }

@@ -4,6 +4,7 @@ use Rattle.code_runs.specs.Bare.{planned}
 use Rattle.code_runs.proofs.BareBoots.{all_boots}
 use Rattle.code_runs.proofs.BareLaws.{BareLaws}
 use Rattle.run_plan.specs.Runs.{doing}
+use Rattle.site_runs.specs.Programs.{AllBlocksLead, AllCallsLead}
 use Rattle.site_runs.proofs.Programs.{site_attempts}
 use Rattle.site_runs.proofs.whole.a_program_runs_its_plan.Goals as goal
 
@@ -27,6 +28,6 @@ returns c = λ core world scheme p place_of well limits lies stops copies.
       commits_cut = λ d number. c.a_commit_is_cut_well.ensures p place_of d number false;
       relates = c.memory_is_related_between_acts.ensures p;
     } in
-    let calls = λ n t found. c.calls_lead_on.ensures p place_of (doing (planned core world scheme) (suc n) t) (suc n) well found limits in
-    let blocks = λ n t found. c.blocks_lead_on.ensures p place_of (doing (planned core world scheme) (suc n) t) (suc n) well found in
+    let calls : AllCallsLead p place_of core world scheme = λ n t found. c.calls_lead_on.ensures p place_of (doing (planned core world scheme) (suc n) t) (suc n) well found limits in
+    let blocks : AllBlocksLead p place_of core world scheme = λ n t found. c.blocks_lead_on.ensures p place_of (doing (planned core world scheme) (suc n) t) (suc n) well found in
     c.boots_run_as_planned.ensures p place_of (planned core world scheme) well (all_boots p place_of law core world scheme well lies (site_attempts p place_of law core world scheme well lies calls blocks copies)) stops
