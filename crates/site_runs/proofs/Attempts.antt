@@ -1,6 +1,6 @@
 -- The attempts of a task lead on, with the sites of its statements.
 use Rattle.std.specs.Prelude.{◌≢◌, Option, Some, None}
-use Rattle.std.proofs.Common.{◌≡◌, ◌∙◌, ℕ, suc, ◌+◌, ◌≤◌, true, false, List, [], ◌∷◌, ◌++◌, refl, sym, ap, subst, arith}
+use Rattle.std.proofs.Common.{◌≡◌, ◌∙◌, ℕ, suc, ◌+◌, true, false, List, [], ◌∷◌, ◌++◌, refl, sym, ap, subst, arith}
 use Rattle.devices.specs.Journal.{Place}
 use Rattle.io_annot.specs.declared.choice.Mode.{Mode}
 use Rattle.io_annot.specs.declared.choice.Mode.TheVariants.{Own}

@@ -1,20 +1,19 @@
 -- The acts of a block lead on: its beginning is noted inside it, and at its end the mode outside is back.
 use Rattle.std.specs.Prelude.{◌≢◌, ◌%◌, ◌^◌, cond, Some, None, Option, slice_get}
 use Rattle.std.specs.List.{AllByRecursion}
-use Rattle.std.proofs.Common.{◌≡◌, ◌∙◌, ℕ, zero, suc, ◌+◌, ◌-◌, ◌<◌, ◌≤◌, Bool, true, false, ◌==◌, List, [], ◌∷◌, ◌++◌, refl, sym, ap, subst, arith}
+use Rattle.std.proofs.Common.{◌≡◌, ◌∙◌, ℕ, suc, ◌+◌, ◌-◌, ◌<◌, ◌≤◌, false, List, [], ◌∷◌, ◌++◌, refl, sym, ap, subst, arith}
 use Rattle.std.proofs.lemmas.Bool.{eq-eqb, ne_eqb}
-use Rattle.devices.specs.Journal.{Place, drops, looks, seals}
+use Rattle.devices.specs.Journal.{Place, drops}
 use Rattle.io_annot.specs.declared.choice.Mode.{Mode}
 use Rattle.io_annot.specs.declared.choice.Mode.TheVariants as mode
 use Rattle.block_scope.specs.Enter.{entered}
 use Rattle.task_ast.specs.WellFormed.{IsWellFormed}
 use Rattle.task_ast.specs.declared.core_form.Core.{Core}
 use Rattle.task_ast.specs.declared.core_form.CoreTask.{CoreTask}
-use Rattle.task_ast.specs.declared.core_form.Site.{Site}
 use Rattle.task_ast.specs.declared.core_form.Site.TheVariants as site
 use Rattle.task_ast.specs.declared.tree.Ann.{Ann}
 use Rattle.task_attempts.specs.Boots.{task_of}
-use Rattle.task_attempts.specs.Calls.{annotation, site_at}
+use Rattle.task_attempts.specs.Calls.{annotation}
 use Rattle.task_attempts.specs.Changes.{put}
 use Rattle.task_attempts.specs.Told.{next_look}
 use Rattle.word_machine.specs.State.{Program}
@@ -22,12 +21,12 @@ use Rattle.word_machine.specs.Straight.{Spot}
 use Rattle.run_plan.specs.declared.act.Act.{Act}
 use Rattle.run_plan.specs.declared.act.Act.TheVariants as act
 use Rattle.run_plan.specs.Cells.{State, puts_flag, puts_stamp}
-use Rattle.run_plan.specs.Deeds.{leave_done, leaving, look_done, seal_done, sealed, stamp_held}
-use Rattle.run_plan.specs.PlanOf.{block_acts, block_end_acts}
+use Rattle.run_plan.specs.Deeds.{leaving, look_done, seal_done, sealed, stamp_held}
+use Rattle.run_plan.specs.PlanOf.{block_end_acts}
 use Rattle.run_plan.specs.Rows.{act_row_of}
 use Rattle.run_plan.specs.RunRows.{run_joined, run_leave}
-use Rattle.run_plan.specs.Runs.{Onward, act_run, acts_run, by_way, straight}
-use Rattle.run_plan.specs.Small.{Doing, Way, ahead, first_way, second_way, third_way, core_of, does, have, sets_frame, shown_last, writing}
+use Rattle.run_plan.specs.Runs.{Onward, act_run, acts_run, by_way}
+use Rattle.run_plan.specs.Small.{Doing, Way, ahead, first_way, second_way, third_way, core_of, does, have, sets_frame, writing}
 use Rattle.word_code.specs.ActCode.{acts_entry, entry}
 use Rattle.word_code.specs.ActLaws.{entry_of_acts}
 use Rattle.word_code.specs.Frames.{Frame}
@@ -35,7 +34,6 @@ use Rattle.word_code.specs.Sizes.{act_size, acts_size}
 use Rattle.code_places.specs.Placed.{ActLies, ActsLie}
 use Rattle.act_laws.specs.Words.{FitsLimit}
 use Rattle.cell_laws.specs.Standing.{IsSite}
-use Rattle.act_refines.specs.Between.{AreRelated}
 use Rattle.act_refines.specs.Does.{DoesAct, IsDue, IsEarlier, IsFree, Nothing, frame_of}
 use Rattle.code_cuts.specs.Acts.{CutsAct}
 use Rattle.code_cuts.specs.Asked.{IsInside, IsTimed, SealsBlock}
@@ -46,7 +44,7 @@ use Rattle.site_claims.proofs.Behind.{around_later, attempt_behind, attempt_kept
 use Rattle.site_claims.proofs.Leading.{act_leads, each_way, no_leads, straight_leads}
 use Rattle.site_claims.proofs.Lists.{lists_lie}
 use Rattle.site_claims.proofs.Looks.{LookLaws, look_leads}
-use Rattle.site_runs.specs.Bodies.{ActsLead, BlocksLead, IsBlockOf}
+use Rattle.site_runs.specs.Bodies.{BlocksLead, IsBlockOf}
 use Rattle.site_runs.proofs.Claims.{all_around, still_around}
 use Rattle.site_runs.proofs.Finding.{to_site}
 use Rattle.site_runs.proofs.Lying.{entered as entered_at, lies_parts}

@@ -5,7 +5,7 @@ use Rattle.devices.specs.Journal.{Place}
 use Rattle.word_machine.specs.State.{Program}
 use Rattle.run_plan.specs.declared.act.Act.{Act}
 use Rattle.run_plan.specs.RunRows.{run_joined}
-use Rattle.run_plan.specs.Runs.{Onward, acts_run}
+use Rattle.run_plan.specs.Runs.{acts_run}
 use Rattle.run_plan.specs.Small.{Doing}
 use Rattle.word_code.specs.ActCode.{acts_entry}
 use Rattle.word_code.specs.Frames.{Frame}

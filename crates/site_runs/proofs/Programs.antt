@@ -1,11 +1,9 @@
 -- The attempts of every task of a program lead on from where their code lies.
-use Rattle.std.specs.Prelude.{slice_get, Some}
-use Rattle.std.proofs.Common.{◌≡◌, ℕ, suc}
+use Rattle.std.proofs.Common.{ℕ, suc}
 use Rattle.devices.specs.Journal.{Place}
 use Rattle.devices.specs.declared.world.World.{World}
 use Rattle.task_ast.specs.WellFormed.{IsWellFormed}
 use Rattle.task_ast.specs.declared.core_form.Core.{Core}
-use Rattle.task_ast.specs.declared.core_form.CoreTask.{CoreTask}
 use Rattle.word_isa.specs.declared.parts.Scheme.{Scheme}
 use Rattle.word_machine.specs.State.{Program}
 use Rattle.run_plan.specs.PlanOf.{plan_of}

@@ -1,8 +1,7 @@
 -- The acts of statements lead on, inside whatever blocks: one induction over the statements of a body.
-use Rattle.std.specs.Prelude.{◌-◌, Some, None, length, Option}
+use Rattle.std.specs.Prelude.{◌-◌, Some, length, Option}
 use Rattle.std.specs.List.{AllByRecursion, range_with_len}
-use Rattle.std.proofs.Common.{◌≡◌, ◌∙◌, ℕ, suc, ◌+◌, ◌<◌, ◌≤◌, Bool, true, false, ◌==◌, cond, List, [], ◌∷◌, ◌++◌, refl, sym, ap, subst, arith}
-use Rattle.std.proofs.lemmas.List.{length-append}
+use Rattle.std.proofs.Common.{◌≡◌, ◌∙◌, ℕ, suc, ◌+◌, ◌<◌, ◌≤◌, Bool, true, false, List, [], ◌∷◌, ◌++◌, refl, sym, ap, subst, arith}
 use Rattle.std.proofs.lemmas.List.FromFn.{length-range_with_len}
 use Rattle.devices.specs.Journal.{Place}
 use Rattle.io_flow.specs.Written.{Covers, back_of, front_of}
@@ -33,7 +32,7 @@ use Rattle.run_plan.specs.Finding.{found_among, found_in, found_in_row, statemen
 use Rattle.run_plan.specs.PlanOf.{Around, around, body_acts, row_acts, statement_acts, unless_plain}
 use Rattle.run_plan.specs.Rows.{act_row_of}
 use Rattle.run_plan.specs.RunRows.{lists_run}
-use Rattle.run_plan.specs.Runs.{Onward, acts_run, by_way, row_run, straight}
+use Rattle.run_plan.specs.Runs.{by_way, row_run, straight}
 use Rattle.run_plan.specs.Small.{Doing, core_of}
 use Rattle.word_code.specs.ActCode.{acts_entry, entry}
 use Rattle.word_code.specs.ActLaws.{entry_of_acts}
