@@ -1,0 +1,2 @@
+//! What is known between the acts of an attempt with sites, and how acts lead on under it.
+#![tactic(auto)]
