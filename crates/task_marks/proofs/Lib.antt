@@ -4,3 +4,4 @@ pub mod Flows
 pub mod LineFlows
 pub mod Reading
 pub mod Steps
+pub mod Whole
