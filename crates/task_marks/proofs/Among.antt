@@ -1,5 +1,5 @@
 -- Where the machine may be in the code of a plan, by the task that began last, and that each line leads to where it may be.
-use Rattle.std.specs.Prelude.{◌≡◌, ◌⊎◌, ℕ, zero, suc, ◌+◌, ◌*◌, ◌<◌, ◌≤◌, Bool, true, false, nat_le, nat_lt, List, [], ◌∷◌, ◌++◌, length, Option, Some, None, ⊤, refl}
+use Rattle.std.specs.Prelude.{◌≡◌, ◌⊎◌, ℕ, ◌+◌, ◌*◌, ◌<◌, ◌≤◌, Bool, true, false, nat_le, nat_lt, List, [], ◌∷◌, length, Option, Some, None, ⊤, refl}
 use Rattle.std.specs.List.{AllByRecursion}
 use Rattle.std.proofs.Common.{ap, sym, inl, inr, arith, subst, length-append}
 use Rattle.std.proofs.lemmas.Bool.Decides.{nat_tests}
@@ -15,7 +15,6 @@ use Rattle.run_plan.specs.declared.act.Act.{Act}
 use Rattle.run_plan.specs.declared.act.Act.TheVariants as act
 use Rattle.run_plan.specs.declared.parts.Plan.{Plan}
 use Rattle.word_code.specs.ActCode.{acts_entry, act_code, acts_code}
-use Rattle.word_code.specs.Acts.{jump}
 use Rattle.word_code.specs.CodeOf.{Job, boot_size, job_size, job_code, jobs_code, boot_stubs, task_stubs}
 use Rattle.word_code.specs.Fitting.{AreFit}
 use Rattle.word_code.specs.Frames.{Frame}

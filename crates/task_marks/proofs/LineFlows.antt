@@ -19,7 +19,7 @@ use Rattle.line_code.specs.declared.line.Sign.{Sign}
 use Rattle.line_code.specs.Areas.{area_at, pointer_at}
 use Rattle.line_code.specs.Lines.{bares}
 use Rattle.line_code.specs.Sizes.{two_size, expr_size, target_size, statement_size, row_size}
-use Rattle.line_code.specs.Expressions.{number_code, place_code, room_code, pointer_code, one_code, op_code, sides_code, both_code, either_code, two_code, expr_code, target_code}
+use Rattle.line_code.specs.Expressions.{place_code, room_code, pointer_code, one_code, op_code, sides_code, both_code, either_code, two_code, expr_code, target_code}
 use Rattle.line_code.specs.Statements.{assign_code, point_code, unless_code, if_code, loop_code, statement_code, row_code}
 use Rattle.task_marks.proofs.Flows.{Flows, join, nothing, straight}
 

@@ -18,13 +18,12 @@ use Rattle.run_plan.specs.Kinds.{IsOfProgram, IsOfSome, IsOfTask, AreOfTasks}
 use Rattle.run_plan.specs.PlanOf.{around, body_acts, exit_act, plan_of, save_acts, task_acts, tasks_acts}
 use Rattle.run_plan.specs.Sizes.{AreWithin}
 use Rattle.run_plan.specs.declared.act.Act.{Act}
-use Rattle.run_plan.specs.declared.act.Act.TheVariants as act
 use Rattle.run_plan.specs.declared.parts.Plan.{Plan}
 use Rattle.word_code.specs.ActMarks.{jobs_marks}
 use Rattle.word_code.specs.CodeOf.{Job, job, frame_at, jobs_from, jobs_of, jobs_size, jobs_code, boot_stubs, task_stubs, first_at, code_of, marks_of}
 use Rattle.word_code.specs.FitPlan.{IsFitJob, IsFitPlan}
 use Rattle.word_code.specs.Frames.{Frame, stride}
-use Rattle.word_code.specs.Heads.{boot_at, leaf_code, tree_code, head_code}
+use Rattle.word_code.specs.Heads.{boot_at, tree_code, head_code}
 use Rattle.word_code.specs.Passing.{AllFit}
 use Rattle.word_code.specs.Within.{HasPlaces, IsWithin}
 use Rattle.word_code.proofs.CodePasses.{code_fine}
@@ -34,13 +33,13 @@ use Rattle.code_places.specs.Placed.{program_by}
 use Rattle.code_places.proofs.ActGoods.{IsSmall, stride_low}
 use Rattle.code_places.proofs.CodeGoods.{boot_stubs_good, code_good, frame_small, head_good, task_stubs_good}
 use Rattle.code_places.proofs.FrameGoods.{acts_good}
-use Rattle.code_places.proofs.Standing.{all_fit, instr_in}
+use Rattle.code_places.proofs.Standing.{all_fit}
 use Rattle.task_marks.specs.Told.{AtTheirTasks, marks_on}
 use Rattle.task_marks.proofs.ActFlows.{fix_flows}
 use Rattle.task_marks.proofs.Among.{IsAmong, IsBare, IsFree, IsGoodJob, among_low, bare_plain, boot_stubs_flow, free_fare, jobs_fare, task_stubs_flow}
 use Rattle.task_marks.proofs.Flows.{Flows, join, straight}
 use Rattle.task_marks.proofs.LineFlows.{jump_flows}
-use Rattle.task_marks.proofs.Reading.{AllFare, fare_joined, fares_at, mark_in, marks_read, words_read}
+use Rattle.task_marks.proofs.Reading.{AllFare, fare_joined, fares_at, marks_read, words_read}
 use Rattle.task_marks.proofs.Steps.{Fares, run_tells}
 
 -- ---- the head
@@ -153,6 +152,6 @@ marks_named c scheme w within limits of values rows fram =
     let program : Program = program_by p c values in
     let closed : (b : Option ℕ) (at : ℕ) (i : Instr) → May p c b at → program.instr at ≡ Some i → Fares (May p c) b at i (mark_at (marks_of 0 lines) at) =
     λ b at i may there.
-        subst (Fares (May p c) b at i) (sym (marks_read lines 0 at at (omega arith)))
-        (fares_at (May p c) lines 0 at at b i (omega arith) fares (sym (words_read lines fits at) ∙ there) may) in
+    subst (Fares (May p c) b at i) (sym (marks_read lines 0 at at (omega arith)))
+    (fares_at (May p c) lines 0 at at b i (omega arith) fares (sym (words_read lines fits at) ∙ there) may) in
     run_tells (marks_of 0 lines) program (May p c) (λ at. refl) closed (λ b. low_free p c 0 (omega arith) b) rows fram

@@ -1,5 +1,7 @@
 -- The marks that the events of a run come from, and that each names the task that began last (docs/CODE.md, "What is proved").
 use Rattle.std.specs.Prelude.{◌≡◌, ℕ, zero, suc, ◌-◌, ◌==◌, List, [], ◌∷◌, ◌++◌, Option, Some, None, if◌then◌else◌, ⊤}
+use Rattle.devices.specs.declared.event.Event.{Event}
+use Rattle.devices.specs.declared.event.Event.TheVariants as event
 use Rattle.devices.specs.declared.world.PowerRow.{PowerRow}
 use Rattle.word_isa.specs.Marks.{mark_at}
 use Rattle.word_isa.specs.declared.mark.Mark.{Mark}
@@ -64,3 +66,16 @@ IsOfBegun Commit task begun = begun ≡ Some task
 abbrev pub AtTheirTasks : (begun : Option ℕ) → List Mark → Type 0
 AtTheirTasks begun [] = ⊤
 AtTheirTasks begun (m ∷ marks) = IsOfBegun m.kind m.task begun × AtTheirTasks (begun_by m.kind m.site begun) marks
+
+-- ---- events and marks
+
+-- the site that an event names, a begin's task, or the task that is next behind a commit
+abbrev pub site_in : Event → ℕ
+site_in (event.Begin task) = task
+site_in (event.Look site time) = site
+site_in (event.Kept site value) = site
+site_in (event.Dropped site) = site
+site_in (event.Issued site peripheral args reading) = site
+site_in (event.Sealed site) = site
+site_in (event.Copied site from to words) = site
+site_in (event.Commit next) = next
