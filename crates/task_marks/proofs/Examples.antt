@@ -1,5 +1,5 @@
 -- Runs of small programs that tell a mark of another task than began last.
-use Rattle.std.proofs.Common.{◌≡◌, ℕ, ◌<◌, [], ◌∷◌, Some, None, arith, refl, subst}
+use Rattle.std.proofs.Common.{◌≡◌, ℕ, ◌<◌, List, [], ◌∷◌, Some, None, arith, refl, subst}
 use Rattle.fram_ram.specs.Memories.{has_word}
 use Rattle.word_isa.specs.Decoding.{decoded}
 use Rattle.word_isa.specs.Marks.{mark_at}
@@ -14,22 +14,22 @@ other_task a b low is =
     let same : a ≡ b = cc is in
     absurd (omega (arith, low, same))
 
-look_told : small_run looking (begin_of_one ∷ of_two mark.Look 1 ∷ []) 2 ≡ begin_of_one ∷ begin_of_one ∷ of_two mark.Look 1 ∷ []
+look_told : (values : ℕ → List ℕ) (fram : List ℕ) → small_run looking (begin_of_one ∷ of_two mark.Look 1 ∷ []) values fram 2 ≡ begin_of_one ∷ begin_of_one ∷ of_two mark.Look 1 ∷ []
 unfolding decoded event_next stepped_next exec fail step mark_at marks_in marks_on
-look_told = refl
+look_told values fram = refl
 
-copy_told : small_run copying (begin_of_one ∷ of_two mark.Copy 2 ∷ []) 4 ≡ begin_of_one ∷ begin_of_one ∷ of_two mark.Copy 2 ∷ []
+copy_told : (values : ℕ → List ℕ) (fram : List ℕ) → small_run copying (begin_of_one ∷ of_two mark.Copy 2 ∷ []) values fram 4 ≡ begin_of_one ∷ begin_of_one ∷ of_two mark.Copy 2 ∷ []
 unfolding decoded event_next stepped_next exec fail step mark_at marks_in marks_on has_word
-copy_told = refl
+copy_told values fram = refl
 
-pub wrong_look : AtTheirTasks None (small_run looking (begin_of_one ∷ of_two mark.Look 1 ∷ []) 2) → ⊥
-wrong_look h =
-    let told = subst (AtTheirTasks None) look_told h in
+pub wrong_look : (values : ℕ → List ℕ) (fram : List ℕ) → AtTheirTasks None (small_run looking (begin_of_one ∷ of_two mark.Look 1 ∷ []) values fram 2) → ⊥
+wrong_look values fram h =
+    let told = subst (AtTheirTasks None) (look_told values fram) h in
     other_task 1 2 (omega arith) told.1.1.0
 
-pub wrong_copy : AtTheirTasks None (small_run copying (begin_of_one ∷ of_two mark.Copy 2 ∷ []) 4) → ⊥
-wrong_copy h =
-    let told = subst (AtTheirTasks None) copy_told h in
+pub wrong_copy : (values : ℕ → List ℕ) (fram : List ℕ) → AtTheirTasks None (small_run copying (begin_of_one ∷ of_two mark.Copy 2 ∷ []) values fram 4) → ⊥
+wrong_copy values fram h =
+    let told = subst (AtTheirTasks None) (copy_told values fram) h in
     other_task 1 2 (omega arith) told.1.1.0
 
 pub early_mark : AtTheirTasks None (of_two mark.Commit 0 ∷ []) → ⊥

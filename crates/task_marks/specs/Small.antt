@@ -27,5 +27,5 @@ abbrev pub failing : (on : ℕ) → List PowerRow
 failing on = record { on = 1; off = 0; fill = 0 } ∷ record { on = on; off = 0; fill = 0 } ∷ []
 
 -- the marks of such a run
-abbrev pub small_run : (code : List ℕ) → List Mark → (on : ℕ) → List Mark
-small_run code marks on = marks_on marks (program_of code marks (λ q. [])) (failing on) (start [])
+abbrev pub small_run : (code : List ℕ) → List Mark → (values : ℕ → List ℕ) → (fram : List ℕ) → (on : ℕ) → List Mark
+small_run code marks values fram on = marks_on marks (program_of code marks values) (failing on) (start fram)

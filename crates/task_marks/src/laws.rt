@@ -37,7 +37,7 @@ pub fn an_event_has_the_site_of_its_mark()
 /// A look and a copy of one task whose marks name another are refused, and so is a mark before any begin.
 #[tactic(auto, using(crate::proofs::Examples::wrong_look, crate::proofs::Examples::wrong_copy, crate::proofs::Examples::early_mark))]
 pub fn marks_of_another_task_are_refused()
-    ensures look { AtTheirTasks None (small_run looking (begin_of_one ∷ of_two mark.Look 1 ∷ []) 2) → ⊥ }
-    ensures copy { AtTheirTasks None (small_run copying (begin_of_one ∷ of_two mark.Copy 2 ∷ []) 4) → ⊥ }
+    ensures look { (values : ℕ → List ℕ) (fram : List ℕ) → AtTheirTasks None (small_run looking (begin_of_one ∷ of_two mark.Look 1 ∷ []) values fram 2) → ⊥ }
+    ensures copy { (values : ℕ → List ℕ) (fram : List ℕ) → AtTheirTasks None (small_run copying (begin_of_one ∷ of_two mark.Copy 2 ∷ []) values fram 4) → ⊥ }
     ensures early { AtTheirTasks None (of_two mark.Commit 0 ∷ []) → ⊥ }
 {}
