@@ -9,6 +9,7 @@ use Rattle.run_plan.specs.Cells.{Frame, State}
 use Rattle.run_plan.specs.Small.{Doing}
 use Rattle.code_runs.specs.Claims.{IsClaim}
 use Rattle.site_claims.specs.InAttempts.{In, IsAround}
+use Rattle.site_claims.proofs.Behind.{around_later}
 
 -- a block around is so later, where its beginning and the mode outside it are noted as they were
 pub still_around : (k : ℕ) (m there : Spot) (s to : State) → m.clock ≤ there.clock → to.frame.begun k ≡ s.frame.begun k → to.frame.outer k ≡ s.frame.outer k → IsAround k m s → IsAround k there to
@@ -25,12 +26,6 @@ all_around Some_of [] m there s to later begun outer some all = tt
 all_around Some_of (k ∷ blocks) m there s to later begun outer some all =
     (still_around k m there s to later (begun k some.0) (outer k some.0) all.0, all_around Some_of blocks m there s to later begun outer some.1 all.1)
 
--- and of all blocks
-pub ever_around : (blocks : List ℕ) (m there : Spot) (s to : State) → m.clock ≤ there.clock → ((k : ℕ) → to.frame.begun k ≡ s.frame.begun k) → ((k : ℕ) → to.frame.outer k ≡ s.frame.outer k)
-    → AllByRecursion (λ k. IsAround k m s) blocks → AllByRecursion (λ k. IsAround k there to) blocks
-ever_around [] m there s to later begun outer all = tt
-ever_around (k ∷ blocks) m there s to later begun outer all = (still_around k m there s to later (begun k) (outer k) all.0, ever_around blocks m there s to later begun outer all.1)
-
 pub in_claim : (p : Program) (place_of : ℕ → Place) (d : Doing) (number : ℕ) (blocks : List ℕ) → IsClaim p place_of d.setting.rules d.scheme number d.setting.task (In p place_of d number blocks)
 in_claim p place_of d number blocks = record {
   common = λ n m s h. h.common;
@@ -39,6 +34,6 @@ in_claim p place_of d number blocks = record {
     common = common;
     within = within;
     mode = subst (λ (f : Frame). f.mode ≢ None) (sym frame) h.mode;
-    around = ever_around blocks m there s to later (λ j. ap (λ (f : Frame). f.begun j) frame) (λ j. ap (λ (f : Frame). f.outer j) frame) h.around;
+    around = around_later m there s to blocks later (λ i. (frame i).begun) (λ i. (frame i).outer) h.around;
   };
 }
