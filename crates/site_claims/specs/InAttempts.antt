@@ -1,5 +1,5 @@
 -- What is known between the acts of an attempt, inside blocks.
-use Rattle.std.specs.Prelude.{List, ◌≡◌, ◌≢◌, ℕ, ◌≤◌, Bool, Some, None}
+use Rattle.std.specs.Prelude.{List, ◌≡◌, ℕ, ◌≤◌, Bool, Some}
 use Rattle.std.specs.List.{AllByRecursion}
 use Rattle.devices.specs.Journal.{Place}
 use Rattle.io_flow.specs.Written.{AllWithin}
