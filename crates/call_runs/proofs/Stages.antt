@@ -9,9 +9,16 @@ use Rattle.word_machine.specs.State.{Program}
 use Rattle.word_machine.specs.Straight.{Spot}
 use Rattle.run_plan.specs.Cells.{State}
 use Rattle.run_plan.specs.Small.{Doing, Way, ahead, first_way, second_way, third_way}
-use Rattle.act_refines.specs.Does.{Holds, IsFree}
-use Rattle.code_cuts.specs.Asked.{HasWord}
-use Rattle.site_claims.specs.InAttempts.{In, IsLooked, IsValued, Never, With}
+use Rattle.act_refines.specs.Does.{HasAim, Holds, IsCalledWith, IsFree}
+use Rattle.code_cuts.specs.Asked.{HasArguments, HasTarget, HasWord}
+use Rattle.site_claims.specs.InAttempts.{In, IsLooked, Never, With}
+
+-- a call was valued: its target, if it has one, and so many arguments
+pub record IsValued (has : Bool) (count : ℕ) (m : Spot) (s : State) : Type 0 where
+  pub target : HasTarget m s
+  pub aim : HasAim has m s
+  pub args : HasArguments m s
+  pub called : IsCalledWith count m s
 
 -- whether a call has a target
 abbrev pub aims : Option CoreTarget → Bool
