@@ -5,4 +5,4 @@ mod bodies;
 mod whole;
 
 pub use bodies::{blocks_lead_on, bodies_lead_on};
-pub use whole::a_program_runs_its_plan;
+pub use whole::{a_program_runs_its_plan, an_image_runs_its_plan};

@@ -1,7 +1,7 @@
 //! Whole programs, as the contracts of functions that do nothing (docs/CODE.md, "What is proved").
-ghost use Rattle.std.specs.Prelude.{ℕ};
+ghost use Rattle.std.specs.Prelude.{ℕ, List};
 ghost use Rattle.code_cuts.specs.Boots.{RunsPlan};
-ghost use Rattle.code_places.specs.Placed.{IsPlaced};
+ghost use Rattle.code_places.specs.Placed.{IsPlaced, program_by};
 ghost use Rattle.code_runs.specs.Bare.{planned};
 ghost use Rattle.code_runs.specs.Booting.{StopsSoon};
 ghost use Rattle.devices.specs.Journal.{Place};
@@ -26,6 +26,7 @@ use code_cuts::{
     a_region_is_restored_in_cuts, a_region_is_saved_in_cuts, a_statement_is_cut_well,
     a_test_is_cut_well,
 };
+use code_places::{a_stop_halts, the_code_of_a_plan_lies_in_its_image};
 use code_runs::boots_run_as_planned;
 
 /// A machine's program in which the code of a plan lies runs the plan, cut anywhere, in every world within the limits and under
@@ -53,4 +54,15 @@ pub fn a_program_runs_its_plan()
     a_test_is_cut_well();
     a_commit_is_cut_well();
     a_commit_leaves_a_step();
+}
+
+/// So does the program of the words and marks of each checked program, whatever its peripherals read.
+pub fn an_image_runs_its_plan(c: &task_ast::Core, scheme: word_isa::Scheme)
+    requires { IsWellFormed c.now }
+    ensures { (world : World) (values : ℕ → List ℕ) (place_of : ℕ → Place) → IsWithinLimits world → AllCopiesLead (program_by (plan_of c.now scheme) c.now values) place_of c.now world scheme
+        → RunsPlan (program_by (plan_of c.now scheme) c.now values) place_of (planned c.now world scheme) }
+{
+    a_program_runs_its_plan();
+    the_code_of_a_plan_lies_in_its_image(c, scheme);
+    a_stop_halts(c, scheme);
 }
