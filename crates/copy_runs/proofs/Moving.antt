@@ -1,6 +1,6 @@
 -- The words of a copy go across, aside and back, its record is sealed, and its classes lead on.
 use Rattle.std.specs.Prelude.{◌≢◌, cond, map, slice_get, Option, Some, None}
-use Rattle.std.proofs.Common.{◌≡◌, ◌∙◌, ℕ, suc, ◌+◌, ◌-◌, ◌<◌, ◌≤◌, ◌==◌, Bool, true, false, List, [], ◌∷◌, refl, sym, ap, subst, arith, eq-eqb}
+use Rattle.std.proofs.Common.{◌≡◌, ◌∙◌, ℕ, zero, suc, ◌+◌, ◌-◌, ◌<◌, ◌≤◌, ◌==◌, Bool, true, false, List, [], ◌∷◌, refl, sym, ap, subst, arith, eq-eqb}
 use Rattle.devices.specs.Journal.{JournalEvent, Place, copies, keep, keeps}
 use Rattle.region_split.specs.declared.class.DmaClass.{DmaClass}
 use Rattle.task_ast.specs.WellFormed.{IsWellFormed}
@@ -23,7 +23,7 @@ use Rattle.run_plan.specs.declared.act.Leg.TheVariants as leg
 use Rattle.run_plan.specs.Cells.{CopyValued, State, puts_class, puts_flag, puts_from, puts_length, puts_to}
 use Rattle.run_plan.specs.Deeds.{class_valued, keep_done, put_done, seal_done, sealed, transfer_done, words_shown}
 use Rattle.run_plan.specs.Runs.{Onward, act_run, act_steps, straight}
-use Rattle.run_plan.specs.Small.{Doing, ahead, core_of, does, flag_holds, have, shown_last, showing, silent, silently, with_volatile}
+use Rattle.run_plan.specs.Small.{Atom, Doing, ahead, core_of, does, flag_holds, have, shown_last, showing, silent, silently, with_volatile}
 use Rattle.run_plan.specs.Words.{home_writes, keep_writes, kept_at, move_writes, put_writes, recorded_words}
 use Rattle.word_code.specs.ActCode.{act_code}
 use Rattle.code_places.specs.Placed.{ActLies}
@@ -51,7 +51,7 @@ use Rattle.copy_runs.proofs.Stages.{Fresh, Held, IsGoodCopy, fresh_behind, held_
 -- ---- pointers
 
 moved_pointers : (n : ℕ) (to from : walked.Place) (store : Store) → (move_words n to from store).pointers ≡ store.pointers
-moved_pointers 0 to from store = refl
+moved_pointers zero to from store = refl
 moved_pointers (suc n) to from store = moved_pointers n (place to.array (to.index + 1)) (place from.array (from.index + 1)) (put_word to (word_at store from) store)
 
 put_pointers : (words : List ℕ) (to : walked.Place) (store : Store) → (put_words to words store).pointers ≡ store.pointers
@@ -127,12 +127,13 @@ module _ (p : Program) (place_of : ℕ → Place) (law : CopyLaws p place_of) (d
       straight_leads p place_of d number well here false BeforeSeal BeforeSeal (GoesAcross place_of d) (MovesCopy d) (act.Transfer k leg.Across) at next most go (λ m s related. related) (λ way. refl) (law.word.across d number false k) (law.word.across_cut d number false k)
       (λ n m s h. h.0.0.common)
       (λ n m s related h. (
-      record {
-        clear = λ v is. (h.0.1.good v is).clear;
-        from = λ v is. told.places s.bank related.memory.tidy.bank v.from (h.0.1.good v is).from;
-        to = λ v is. told.places s.bank related.memory.tidy.bank v.to (h.0.1.good v is).to;
-      },
-      record { copy = h.0.1.copy; clear = λ v is. (h.0.1.good v is).clear }))
+        record {
+          clear = λ v is. (h.0.1.good v is).clear;
+          from = λ v is. told.places s.bank related.memory.tidy.bank v.from (h.0.1.good v is).from;
+          to = λ v is. told.places s.bank related.memory.tidy.bank v.to (h.0.1.good v is).to;
+        },
+        record { copy = h.0.1.copy; clear = λ v is. (h.0.1.good v is).clear },
+      ))
       (λ n m s related h. across_keeps n m s h s.frame.copy) lies leads
 
   -- ---- words go aside
@@ -151,12 +152,13 @@ module _ (p : Program) (place_of : ℕ → Place) (law : CopyLaws p place_of) (d
       straight_leads p place_of d number well here false BeforeSeal BeforeSeal (GoesToKept place_of d k) (KeepsCopy d k) (act.Transfer k leg.ToKept) at next most go (λ m s related. related) (λ way. refl) (law.word.aside d number false k) (law.word.aside_cut d number false k)
       (λ n m s h. h.0.0.common)
       (λ n m s related h. (
-      record {
-        room = λ v is. (h.0.1.good v is).room;
-        from = λ v is. told.places s.bank related.memory.tidy.bank v.from (h.0.1.good v is).from;
-        kept = kept_is m s s.frame.copy refl h.0.1.copy h.0.1.good;
-      },
-      record { copy = h.0.1.copy; room = λ v is. (h.0.1.good v is).room }))
+        record {
+          room = λ v is. (h.0.1.good v is).room;
+          from = λ v is. told.places s.bank related.memory.tidy.bank v.from (h.0.1.good v is).from;
+          kept = kept_is m s s.frame.copy refl h.0.1.copy h.0.1.good;
+        },
+        record { copy = h.0.1.copy; room = λ v is. (h.0.1.good v is).room },
+      ))
       (λ n m s related h. aside_keeps n m s h s.frame.copy) lies leads
 
   -- ---- words at the destination are kept
@@ -199,11 +201,11 @@ module _ (p : Program) (place_of : ℕ → Place) (law : CopyLaws p place_of) (d
       held_behind p place_of d number k blocks n steps m there _ s _ gone mild
       (volatile_stays d s (behind (core_of d) (shown_last (home_writes (core_of d) writes) e) s) (put_words x (recorded_words d k s) s.store) (behind_stays (core_of d) _ s mild) (put_pointers (recorded_words d k s) x s.store)) h
 
-  pub back_leads : (keeps : Bool) (at next most : ℕ) (go : Onward) → Lie p at (act_code (frame_of d number) keeps (act.Transfer k leg.FromKept) at next) → LeadsOn p place_of d WithRecord (suc most) next go
+  pub back_leads : (kept : Bool) (at next most : ℕ) (go : Onward) → Lie p at (act_code (frame_of d number) kept (act.Transfer k leg.FromKept) at next) → LeadsOn p place_of d WithRecord (suc most) next go
       → LeadsOn p place_of d WithRecord (suc most) at (act_steps d (act.Transfer k leg.FromKept) (straight go))
-  back_leads keeps at next most go lies leads =
-      straight_leads p place_of d number well here keeps WithRecord WithRecord (ComesFromKept place_of d k) (PutsCopy d k) (act.Transfer k leg.FromKept) at next most go (λ m s related. related) (λ way. refl)
-      (law.word.back d number keeps k _ copy.numbered copy.there) (law.word.back_cut d number keeps k _ copy.numbered copy.there) (λ n m s h. h.0.0.common) (λ n m s related h. (comes_back n m s related h, puts_copy n m s h))
+  back_leads kept at next most go lies leads =
+      straight_leads p place_of d number well here kept WithRecord WithRecord (ComesFromKept place_of d k) (PutsCopy d k) (act.Transfer k leg.FromKept) at next most go (λ m s related. related) (λ way. refl)
+      (law.word.back d number kept k _ copy.numbered copy.there) (law.word.back_cut d number kept k _ copy.numbered copy.there) (λ n m s h. h.0.0.common) (λ n m s related h. (comes_back n m s related h, puts_copy n m s h))
       (λ n m s related h. back_keeps n m s h (s.cells.to k)) lies leads
 
   -- kept words are put
@@ -213,9 +215,10 @@ module _ (p : Program) (place_of : ℕ → Place) (law : CopyLaws p place_of) (d
   put_keeps n m s h None = tt
   put_keeps n m s h (Some x) = λ steps there gone.
       let writes : List Write = put_writes x (recorded_words d k s) in
-      let mild : AreMild (showing (keeps k (s.cells.length k)) ∷ map silent (home_writes (core_of d) writes)) = ((tt, tt), mild_silent (home_writes (core_of d) writes) (mild_homes (core_of d) writes)) in
-      held_behind p place_of d number k blocks n steps m there _ s _ gone mild
-      (volatile_stays d s (behind (core_of d) (showing (keeps k (s.cells.length k)) ∷ map silent (home_writes (core_of d) writes)) s) (put_words x (recorded_words d k s) s.store) (behind_stays (core_of d) _ s mild) (put_pointers (recorded_words d k s) x s.store)) h
+      let atoms : List Atom = showing (keeps k (s.cells.length k)) ∷ map silent (home_writes (core_of d) writes) in
+      let mild : AreMild atoms = ((tt, tt), mild_silent (home_writes (core_of d) writes) (mild_homes (core_of d) writes)) in
+      held_behind p place_of d number k blocks n steps m there atoms s (with_volatile (core_of d) (put_words x (recorded_words d k s) s.store) (behind (core_of d) atoms s)) gone mild
+      (volatile_stays d s (behind (core_of d) atoms s) (put_words x (recorded_words d k s) s.store) (behind_stays (core_of d) atoms s mild) (put_pointers (recorded_words d k s) x s.store)) h
 
   pub put_leads : (at next most : ℕ) (go : Onward) → Lie p at (act_code (frame_of d number) true (act.PutWords k) at next) → LeadsOn p place_of d WithRecord (suc most) next go → LeadsOn p place_of d WithRecord (suc most) at (act_steps d (act.PutWords k) (straight go))
   put_leads at next most go lies leads =

@@ -62,9 +62,10 @@ module _ (p : Program) (place_of : ℕ → Place) (law : CopyLaws p place_of) (d
 
   value_keeps : (n : ℕ) (m : Spot) (s : State) → Claim n m s → (r : Result CopyValued Trap) → ((v : CopyValued) → r ≡ Ok v → IsGoodCopy d k v) → Keeps p place_of d number (AnyWay AfterValue) n m s (unless_fails r (λ v. sets_frame (record s.frame { copy = Some v })))
   value_keeps n m s h (Err why) good = tt
-  value_keeps n m s h (Ok v) good = λ steps there gone.
-      (attempt_behind p place_of d number blocks n steps m there [] s (record s { frame = record s.frame { copy = Some v } }) h gone refl refl refl refl h.within,
-       record { copy = something v; good = λ w is. subst (IsGoodCopy d k) (same_thing v w is) (good v refl) })
+  value_keeps n m s h (Ok v) good = λ steps there gone. (
+    attempt_behind p place_of d number blocks n steps m there [] s (record s { frame = record s.frame { copy = Some v } }) h gone refl refl refl refl h.within,
+    record { copy = something v; good = λ w is. subst (IsGoodCopy d k) (same_thing v w is) (good v refl) },
+  )
 
   good_of : (m : Spot) (s : State) (n : ℕ) (related : AreRelated p d true m s) (h : Claim n m s) (r : Result CopyValued Trap) → FoundGood d m s (law.relates d m s well related) h.within number well here k to from words copy r
       → (v : CopyValued) → r ≡ Ok v → IsGoodCopy d k v
