@@ -17,7 +17,9 @@ use power_runs::{
     a_failure_leaves_what_lasts, a_run_over_power_rows_is_followed, the_looks_of_a_journal_are_due,
 };
 use task_ast::Core;
-use task_marks::{every_mark_of_a_run_names_the_task_that_began_last, marks_of_another_task_are_refused};
+use task_marks::{
+    every_mark_of_a_run_names_the_task_that_began_last, marks_of_another_task_are_refused,
+};
 use timed_runs::{a_machine_halts_where_nothing_is_left, the_time_of_each_look_is_the_clock};
 use word_isa::Scheme;
 

@@ -1,0 +1,4 @@
+pub mod Behind
+pub mod Leading
+pub mod Lists
+pub mod Looks
