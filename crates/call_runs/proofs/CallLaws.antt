@@ -1,5 +1,5 @@
 -- The laws on the code of a call's acts, as an argument of what goes by them: that it does its act, and that it is cut well.
-use Rattle.std.specs.Prelude.{◌≡◌, ◌-◌, ◌^◌, ◌<◌, ◌≤◌, ℕ, Bool, List, None, Option, Some, length, slice_get, true, false}
+use Rattle.std.specs.Prelude.{◌≡◌, ◌-◌, ◌^◌, ◌<◌, ◌≤◌, ℕ, List, None, Option, Some, length, slice_get, true, false}
 use Rattle.devices.specs.Journal.{Place}
 use Rattle.devices.specs.Reading.{reading_in}
 use Rattle.task_ast.specs.WellFormed.{IsWellFormed, scope_of}

@@ -1,6 +1,6 @@
 -- A kept word is taken, a call's word is written; and all acts of a call.
-use Rattle.std.specs.Prelude.{length, map, Option, Some, None}
-use Rattle.std.proofs.Common.{◌≡◌, ℕ, suc, ◌+◌, ◌≤◌, Bool, true, false, List, [], ◌∷◌, ◌++◌, refl, sym, ap, subst}
+use Rattle.std.specs.Prelude.{length, Option, Some, None}
+use Rattle.std.proofs.Common.{◌≡◌, ℕ, suc, ◌+◌, true, false, List, [], ◌∷◌, refl}
 use Rattle.devices.specs.Journal.{Place}
 use Rattle.devices.specs.World.{IsWithinLimits}
 use Rattle.io_depend.specs.Depend.{dependents}
@@ -25,20 +25,19 @@ use Rattle.run_plan.specs.Words.{home_writes}
 use Rattle.word_code.specs.ActCode.{act_code}
 use Rattle.word_code.specs.Sizes.{act_size}
 use Rattle.code_places.specs.Placed.{ActsLie}
-use Rattle.act_refines.specs.Between.{AreRelated}
 use Rattle.act_refines.specs.Does.{DoesAct, HasAim, Holds, Nothing, frame_of}
 use Rattle.code_cuts.specs.Asked.{HasAimed}
 use Rattle.code_runs.specs.Following.{AnyWay}
 use Rattle.code_runs.proofs.Placing.{Keeps, silent_task}
 use Rattle.site_claims.specs.InAttempts.{In, LeadsOn}
-use Rattle.site_claims.proofs.Behind.{attempt_behind, attempt_kept, silent_frame}
+use Rattle.site_claims.proofs.Behind.{attempt_behind, attempt_kept, silent_frame, something}
 use Rattle.site_claims.proofs.Leading.{straight_leads}
 use Rattle.call_runs.specs.Calls.{CallsLead, IsCallOf}
 use Rattle.call_runs.proofs.CallLaws.{CallLaws}
 use Rattle.call_runs.proofs.Checked.{dependent_sites, task_formed}
 use Rattle.call_runs.proofs.Choosing.{call_chooses}
 use Rattle.call_runs.proofs.Issuing.{issue_list_leads}
-use Rattle.call_runs.proofs.Stages.{Kept, Looked, Worded, aims, something, valued_kept}
+use Rattle.call_runs.proofs.Stages.{Kept, Looked, Worded, aims, valued_kept}
 use Rattle.call_runs.proofs.Valuing.{call_looks, value_leads}
 
 module _ (p : Program) (place_of : ℕ → Place) (law : CallLaws p place_of) (d : Doing) (number : ℕ) (well : IsWellFormed (core_of d)) (here : task_of (core_of d) number ≡ Some d.setting.task)

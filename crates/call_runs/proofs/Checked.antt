@@ -1,7 +1,7 @@
 -- What a call's acts ask of the checked program and of the world.
-use Rattle.std.specs.Prelude.{filter, length, min, slice_get, slice_index, cond, Option, Some, None, Result, Ok, Err, All, if◌then◌else◌, ⊤}
+use Rattle.std.specs.Prelude.{filter, length, min, slice_get, slice_index, cond, Some, Result, Ok, All, if◌then◌else◌}
 use Rattle.std.specs.List.{AllByRecursion, range_with_len}
-use Rattle.std.proofs.Common.{◌≡◌, ℕ, zero, suc, ◌+◌, ◌-◌, ◌^◌, ◌<◌, ◌≤◌, ◌==◌, Bool, true, false, List, [], ◌∷◌, refl, subst, arith}
+use Rattle.std.proofs.Common.{◌≡◌, ℕ, zero, suc, ◌+◌, ◌-◌, ◌^◌, ◌<◌, ◌≤◌, ◌==◌, Bool, true, false, List, [], ◌∷◌, subst, arith}
 use Rattle.ease_base.specs.declared.place.Peripheral.{Peripheral}
 use Rattle.devices.specs.Reading.{reading, reading_in, values_in}
 use Rattle.devices.specs.World.{AreWords, IsFeed, IsWithinLimits}

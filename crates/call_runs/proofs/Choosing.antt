@@ -1,6 +1,6 @@
 -- A call chooses: it goes into one of its lists, and where it keeps its record holds.
-use Rattle.std.specs.Prelude.{cond, length, slice_get, Option, Some, None}
-use Rattle.std.proofs.Common.{◌≡◌, ◌∙◌, ℕ, suc, ◌-◌, ◌==◌, Bool, true, false, List, [], ◌∷◌, refl, sym, ap, subst, eqb-true}
+use Rattle.std.specs.Prelude.{cond, length, Option, Some, None}
+use Rattle.std.proofs.Common.{◌≡◌, ◌∙◌, ℕ, suc, ◌-◌, Bool, true, false, List, [], refl, sym, subst, eqb-true}
 use Rattle.devices.specs.Journal.{Place}
 use Rattle.io_annot.specs.Choice.{choice}
 use Rattle.io_annot.specs.declared.choice.Choice.{Choice}
@@ -9,7 +9,6 @@ use Rattle.io_annot.specs.declared.choice.Mode.{Mode}
 use Rattle.task_ast.specs.WellFormed.{IsWellFormed}
 use Rattle.task_ast.specs.declared.core_form.CoreExpr.{CoreExpr}
 use Rattle.task_ast.specs.declared.core_form.CoreTarget.{CoreTarget}
-use Rattle.task_ast.specs.declared.core_form.Site.TheVariants as site
 use Rattle.task_ast.specs.declared.tree.Ann.{Ann}
 use Rattle.task_attempts.specs.Boots.{task_of}
 use Rattle.word_machine.specs.State.{Program}
@@ -20,8 +19,7 @@ use Rattle.run_plan.specs.Cells.{State}
 use Rattle.run_plan.specs.Deeds.{by_choice, choose_done, reading_held}
 use Rattle.run_plan.specs.Runs.{Onward, act_run}
 use Rattle.run_plan.specs.Small.{Doing, core_of, does, flag_holds, have, same}
-use Rattle.act_refines.specs.Between.{AreRelated}
-use Rattle.act_refines.specs.Does.{Holds, IsEarlier, frame_of}
+use Rattle.act_refines.specs.Does.{IsEarlier, frame_of}
 use Rattle.act_refines.proofs.Records.{at_site}
 use Rattle.code_cuts.specs.Asked.{IsTimed}
 use Rattle.code_places.specs.Placed.{ActLies}

@@ -1,14 +1,13 @@
 -- A call issues: its record and those that depend on it are dropped, and only then it is issued, and sealed.
-use Rattle.std.specs.Prelude.{cond, length, map, slice_get, Option, Some, None, ◌≢◌}
+use Rattle.std.specs.Prelude.{cond, length, map, Option, Some, None, ◌≢◌}
 use Rattle.std.specs.List.{AllByRecursion}
-use Rattle.std.proofs.Common.{◌≡◌, ◌∙◌, ℕ, suc, ◌+◌, ◌-◌, ◌<◌, ◌≤◌, ◌==◌, Bool, true, false, List, [], ◌∷◌, ◌++◌, refl, sym, ap, subst, arith, eq-eqb}
-use Rattle.devices.specs.Journal.{Place, drops, issues, seals}
+use Rattle.std.proofs.Common.{◌≡◌, ◌∙◌, ℕ, suc, ◌+◌, ◌<◌, ◌≤◌, ◌==◌, Bool, true, false, List, [], ◌∷◌, ◌++◌, refl, sym, subst, arith, eq-eqb}
+use Rattle.devices.specs.Journal.{Place, issues}
 use Rattle.devices.specs.Reading.{reading_in}
 use Rattle.devices.specs.World.{IsWithinLimits}
 use Rattle.task_ast.specs.WellFormed.{IsWellFormed}
 use Rattle.task_ast.specs.declared.core_form.CoreExpr.{CoreExpr}
 use Rattle.task_ast.specs.declared.core_form.CoreTarget.{CoreTarget}
-use Rattle.task_ast.specs.declared.core_form.Site.TheVariants as site
 use Rattle.task_attempts.specs.Boots.{task_of}
 use Rattle.task_attempts.specs.Calls.{number_of}
 use Rattle.word_machine.specs.State.{Program}
@@ -23,20 +22,19 @@ use Rattle.run_plan.specs.Small.{Doing, Done, ahead, core_of, does, have, showin
 use Rattle.word_code.specs.ActCode.{act_code, acts_entry}
 use Rattle.word_code.specs.Sizes.{act_size}
 use Rattle.cell_laws.specs.Standing.{IsSite}
-use Rattle.act_refines.specs.Between.{AreRelated}
 use Rattle.act_refines.specs.Does.{IsCalledWith, IsFree, Nothing, frame_of}
 use Rattle.act_refines.proofs.Records.{at_site}
-use Rattle.code_cuts.specs.Asked.{HasArguments, HasWord, SealsCall}
+use Rattle.code_cuts.specs.Asked.{HasArguments, SealsCall}
 use Rattle.code_places.specs.Placed.{ActsLie}
 use Rattle.code_runs.specs.Following.{AnyWay}
 use Rattle.code_runs.proofs.Placing.{Keeps, later}
 use Rattle.site_claims.specs.InAttempts.{LeadsOn}
-use Rattle.site_claims.proofs.Behind.{attempt_behind, attempt_kept}
+use Rattle.site_claims.proofs.Behind.{attempt_behind, attempt_kept, something}
 use Rattle.site_claims.proofs.Leading.{straight_leads}
 use Rattle.call_runs.specs.Calls.{IsCallOf}
 use Rattle.call_runs.proofs.CallLaws.{CallLaws}
 use Rattle.call_runs.proofs.Checked.{number_fits, reading_fits}
-use Rattle.call_runs.proofs.Stages.{Dropped, Issued, Looked, Worded, aims, looked_kept, something, valued_kept}
+use Rattle.call_runs.proofs.Stages.{Dropped, Issued, Looked, Worded, aims, looked_kept, valued_kept}
 
 -- a record that is dropped is free, and one that was free stays so
 dropped_free : (b : Bool) (flag epoch : ℕ) → 0 < epoch → flag ≢ epoch → cond b 0 flag ≢ epoch

@@ -1,6 +1,6 @@
 -- What is known between the acts of a call, and behind acts that leave it.
 use Rattle.std.specs.Prelude.{◌≢◌, length, Option, Some, None}
-use Rattle.std.proofs.Common.{◌≡◌, ◌∙◌, ℕ, ◌≤◌, Bool, true, false, List, refl, sym, ap, subst, arith}
+use Rattle.std.proofs.Common.{◌≡◌, ◌∙◌, ℕ, ◌≤◌, Bool, true, false, List, sym, subst, arith}
 use Rattle.devices.specs.Journal.{Place}
 use Rattle.task_ast.specs.declared.core_form.CoreExpr.{CoreExpr}
 use Rattle.task_ast.specs.declared.core_form.CoreTarget.{CoreTarget}
@@ -9,9 +9,16 @@ use Rattle.word_machine.specs.State.{Program}
 use Rattle.word_machine.specs.Straight.{Spot}
 use Rattle.run_plan.specs.Cells.{State}
 use Rattle.run_plan.specs.Small.{Doing, Way, ahead, first_way, second_way, third_way}
-use Rattle.act_refines.specs.Does.{Holds, IsFree, is_aimed}
-use Rattle.code_cuts.specs.Asked.{HasWord}
-use Rattle.site_claims.specs.InAttempts.{In, IsLooked, IsValued, Never, With}
+use Rattle.act_refines.specs.Does.{HasAim, Holds, IsCalledWith, IsFree}
+use Rattle.code_cuts.specs.Asked.{HasArguments, HasTarget, HasWord}
+use Rattle.site_claims.specs.InAttempts.{In, IsLooked, Never, With}
+
+-- a call was valued: its target, if it has one, and so many arguments
+pub record IsValued (has : Bool) (count : ℕ) (m : Spot) (s : State) : Type 0 where
+  pub target : HasTarget m s
+  pub aim : HasAim has m s
+  pub args : HasArguments m s
+  pub called : IsCalledWith count m s
 
 -- whether a call has a target
 abbrev pub aims : Option CoreTarget → Bool
@@ -45,18 +52,6 @@ module _ (p : Program) (place_of : ℕ → Place) (d : Doing) (number k : ℕ) (
   Chosen first_way = Looked
   Chosen second_way = Kept
   Chosen third_way = Never
-
--- ---- what is there
-
-pub something : {A : Type 0} (a : A) → Some a ≢ None
-something a is = cc
-
-abbrev given : {A : Type 0} → A → Option A → A
-given a None = a
-given a (Some b) = b
-
-pub same_thing : {A : Type 0} (a b : A) → Some a ≡ Some b → a ≡ b
-same_thing a b is = ap (given a) is
 
 -- ---- behind an act
 

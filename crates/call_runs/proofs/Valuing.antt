@@ -1,17 +1,14 @@
 -- A call is valued, and looks at the clock.
-use Rattle.std.specs.Prelude.{◌%◌, drop, length, slice_get, Option, Some, None, Result, Ok, Err, ⊤}
-use Rattle.std.specs.Option.{ForSome}
-use Rattle.std.proofs.Common.{◌≡◌, ◌∙◌, ℕ, suc, ◌+◌, ◌^◌, ◌<◌, ◌≤◌, Bool, true, false, List, [], ◌∷◌, refl, sym, ap, subst, arith}
-use Rattle.devices.specs.Journal.{Place, looks}
+use Rattle.std.specs.Prelude.{length, Option, Some, None, Result, Ok, Err, ⊤}
+use Rattle.std.proofs.Common.{◌≡◌, ℕ, suc, ◌≤◌, Bool, true, false, List, [], ◌∷◌, refl, sym, ap, subst}
+use Rattle.devices.specs.Journal.{Place}
 use Rattle.ease_base.specs.Found.{with_found}
 use Rattle.io_flow.specs.Written.{AllWithin}
 use Rattle.task_ast.specs.Pointing.{pointing}
-use Rattle.task_ast.specs.WellFormed.{IsTarget, IsWellFormed, scope_of}
+use Rattle.task_ast.specs.WellFormed.{IsWellFormed, scope_of}
 use Rattle.task_ast.specs.declared.core_form.CoreExpr.{CoreExpr}
-use Rattle.task_ast.specs.declared.core_form.CoreStmt.TheVariants as stmt
 use Rattle.task_ast.specs.declared.core_form.CoreTarget.{CoreTarget}
 use Rattle.task_attempts.specs.Boots.{task_of}
-use Rattle.task_attempts.specs.Told.{next_look}
 use Rattle.walk_run.specs.declared.place.Place as walked
 use Rattle.walk_run.specs.declared.trap.Trap.{Trap}
 use Rattle.walk_run.specs.Store.{Store}
@@ -23,22 +20,22 @@ use Rattle.run_plan.specs.declared.act.Act.TheVariants as act
 use Rattle.run_plan.specs.Cells.{State}
 use Rattle.run_plan.specs.Deeds.{all_values, look_done, target_found, value_done}
 use Rattle.run_plan.specs.Runs.{Onward, act_steps, straight}
-use Rattle.run_plan.specs.Small.{Doing, core_of, sets_frame, showing, unless_fails}
+use Rattle.run_plan.specs.Small.{Doing, core_of, sets_frame, unless_fails}
 use Rattle.word_code.specs.ActCode.{act_code}
 use Rattle.act_refines.specs.Between.{AreRelated}
 use Rattle.act_refines.specs.Does.{AimsWell, DoesAct, IsDue, Nothing, frame_of, is_aimed}
 use Rattle.act_refines.proofs.Begins.{few_pointers}
 use Rattle.code_runs.specs.Following.{AnyWay}
-use Rattle.code_runs.proofs.Placing.{Gone, Keeps, later, may_follow}
+use Rattle.code_runs.proofs.Placing.{Keeps, later}
 use Rattle.code_runs.proofs.Words.{IsSound}
-use Rattle.site_claims.specs.InAttempts.{In, IsLooked, IsValued, LeadsOn}
-use Rattle.site_claims.proofs.Behind.{attempt_behind}
+use Rattle.site_claims.specs.InAttempts.{In, LeadsOn}
+use Rattle.site_claims.proofs.Behind.{attempt_behind, same_thing, something}
 use Rattle.site_claims.proofs.Leading.{straight_leads}
-use Rattle.site_claims.proofs.Looks.{look_leads}
+use Rattle.site_claims.proofs.Looks.{look_leads, looked}
 use Rattle.call_runs.specs.Calls.{IsCallOf}
 use Rattle.call_runs.proofs.CallLaws.{CallLaws}
 use Rattle.call_runs.proofs.Checked.{arguments_short, target_aims, target_over}
-use Rattle.call_runs.proofs.Stages.{Looked, Valued, aims, same_thing, something, valued_kept}
+use Rattle.call_runs.proofs.Stages.{Looked, Valued, aims, valued_kept}
 
 -- ---- what is found
 
@@ -123,23 +120,10 @@ module _ (p : Program) (place_of : ℕ → Place) (law : CallLaws p place_of) (d
 
   -- ---- a look
 
-  looked : (n steps : ℕ) (m there : Spot) (s : State) → Claim n m s → IsDue m s → m.clock ≤ there.clock → IsLooked there (record s { looks = drop 1 s.looks; frame = record s.frame { time = Some (next_look s.looks) } })
-  looked n steps m there s h due on =
-      let ticks : m.clock + n < 2 ^ 32 = h.common.ticks in
-      let now : next_look s.looks ≡ m.clock = (let whole : m.clock % 2 ^ 32 ≡ m.clock = omega (arith, ticks) in due ∙ whole) in
-      record {
-        time = something (next_look s.looks);
-        past = λ u is. (let same : next_look s.looks ≡ u = same_thing (next_look s.looks) u is in omega (arith, now, same, on));
-        stamps = λ u j is. (
-            let same : next_look s.looks ≡ u = same_thing (next_look s.looks) u is in
-            let past : s.cells.stamp j ≤ m.clock = (may_follow p place_of d number well here n m s h.common).past j in
-            omega (arith, now, same, past));
-      }
-
   look_keeps : (n : ℕ) (m : Spot) (s : State) → AfterValue n m s → IsDue m s → Keeps p place_of d number (AnyWay AfterLook) n m s (look_done k s)
   look_keeps n m s h due = λ steps there gone.
       let on : m.clock ≤ there.clock = later p place_of d number n steps m there _ s _ gone in
-      ((attempt_behind p place_of d number blocks n steps m there _ s _ h.0 gone refl refl refl refl h.0.within, valued_kept (aims x) (length args) m there s _ refl refl h.1), looked n steps m there s h.0 due on)
+      ((attempt_behind p place_of d number blocks n steps m there _ s _ h.0 gone refl refl refl refl h.0.within, valued_kept (aims x) (length args) m there s _ refl refl h.1), looked p place_of law.look d number well here blocks n m there s h.0 due on)
 
   pub call_looks : (at next most : ℕ) (go : Onward) → Lie p at (act_code (frame_of d number) false (act.Look k) at next) → LeadsOn p place_of d AfterLook (suc most) next go → LeadsOn p place_of d AfterValue (suc most) at (act_steps d (act.Look k) (straight go))
   call_looks at next most go lies leads =

@@ -16,6 +16,20 @@ use Rattle.code_cuts.specs.Lasting.{task_behind}
 use Rattle.code_runs.proofs.Placing.{Gone, known_behind, later}
 use Rattle.site_claims.specs.InAttempts.{In, IsAround}
 
+-- ---- what is there
+
+pub something : {A : Type 0} (a : A) → Some a ≢ None
+something a is = cc
+
+abbrev given : {A : Type 0} → A → Option A → A
+given a None = a
+given a (Some b) = b
+
+pub same_thing : {A : Type 0} (a b : A) → Some a ≡ Some b → a ≡ b
+same_thing a b is = ap (given a) is
+
+-- ---- what lives between acts
+
 -- writes without events leave what lives between acts beside the store
 turned_frame : (c : Core) (s : State) (same : Bool) → (turned same c.arrays s).frame ≡ s.frame
 turned_frame c s true = refl

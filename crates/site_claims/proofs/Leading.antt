@@ -1,6 +1,6 @@
 -- Acts lead on: by what is known before an act, and behind it by the way that it goes.
 use Rattle.std.specs.Prelude.{Some}
-use Rattle.std.proofs.Common.{◌≡◌, ℕ, suc, ◌+◌, Bool, true, List, [], ◌∷◌, sym, subst}
+use Rattle.std.proofs.Common.{◌≡◌, ℕ, suc, Bool, true, sym, subst}
 use Rattle.devices.specs.Journal.{Place}
 use Rattle.task_ast.specs.WellFormed.{IsWellFormed}
 use Rattle.task_attempts.specs.Boots.{task_of}
@@ -18,7 +18,7 @@ use Rattle.act_refines.specs.Between.{AreRelated}
 use Rattle.act_refines.specs.Does.{DoesAct, RelatedBehind, frame_of, has_begun, way_at, way_to}
 use Rattle.code_cuts.specs.Acts.{CutsAct}
 use Rattle.code_cuts.specs.Lasting.{Lasts}
-use Rattle.code_runs.specs.Following.{AnyWay, IsWay, LeadsFrom, RunsAt}
+use Rattle.code_runs.specs.Following.{AnyWay, LeadsFrom, RunsAt}
 use Rattle.code_runs.proofs.Following.{act_follows}
 use Rattle.code_runs.proofs.Placing.{Keeps, Known, placed}
 use Rattle.site_claims.specs.InAttempts.{LeadsOn, Never}

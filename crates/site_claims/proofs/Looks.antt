@@ -1,5 +1,5 @@
 -- A look leads on: where it is seen it was due, and until then nothing is.
-use Rattle.std.specs.Prelude.{◌⊎◌, ◌%◌, nat_lt, Some}
+use Rattle.std.specs.Prelude.{◌⊎◌, ◌%◌, drop, nat_lt, Some}
 use Rattle.std.proofs.Common.{◌≡◌, ◌∙◌, ℕ, suc, ◌+◌, ◌-◌, ◌^◌, ◌<◌, ◌≤◌, inl, inr, Bool, true, false, List, [], ◌∷◌, ◌++◌, refl, sym, ap, subst, append-nil, arith}
 use Rattle.devices.specs.Journal.{Place, looks}
 use Rattle.task_ast.specs.WellFormed.{IsWellFormed}
@@ -31,12 +31,13 @@ use Rattle.act_refines.proofs.Going.{goes_on}
 use Rattle.code_cuts.specs.Acts.{CutsAct, CutsWell}
 use Rattle.code_cuts.specs.Boots.{AreDue, times_in}
 use Rattle.code_cuts.specs.Lasting.{Lasts}
-use Rattle.code_cuts.specs.Runs.{end_seen, shown_by}
+use Rattle.code_cuts.specs.Runs.{end_seen}
 use Rattle.code_runs.specs.Following.{AnyWay, Inside, PassesBy, RunsAt}
 use Rattle.code_runs.proofs.Cutting.{is_less, not_less, running_goes_on}
-use Rattle.code_runs.proofs.Placing.{Keeps, Known, may_follow, placed}
+use Rattle.code_runs.proofs.Placing.{Keeps, Known, later, may_follow, placed}
 use Rattle.code_runs.proofs.Splitting.{seen_more}
-use Rattle.site_claims.specs.InAttempts.{LeadsOn, With}
+use Rattle.site_claims.specs.InAttempts.{In, IsLooked, LeadsOn, With}
+use Rattle.site_claims.proofs.Behind.{attempt_behind, same_thing, something}
 use Rattle.site_claims.proofs.Leading.{runs_lead}
 
 -- the laws on a look's code, as an argument of what goes by them
@@ -154,3 +155,27 @@ module _ (p : Program) (place_of : ℕ → Place) (law : LookLaws p place_of) (d
 
     pub look_leads : (most : ℕ) (go : Onward) → LeadsOn p place_of d After (suc most) next go → LeadsOn p place_of d Before (suc most) at (act_steps d (act.Look k) (straight go))
     look_leads most go leads = runs_lead p place_of d number Before (AnyWay After) (act.Look k) at next most (straight go) (λ m s related. related) look_runs (λ way. leads)
+
+  -- ---- behind a look
+
+  -- its time is now's, and no stamp is later
+  pub looked : (blocks : List ℕ) (n : ℕ) (m there : Spot) (s : State) → In p place_of d number blocks n m s → IsDue m s → m.clock ≤ there.clock → IsLooked there (record s { looks = drop 1 s.looks; frame = record s.frame { time = Some (next_look s.looks) } })
+  looked blocks n m there s h due on =
+      let ticks : m.clock + n < 2 ^ 32 = h.common.ticks in
+      let now : next_look s.looks ≡ m.clock = (let whole : m.clock % 2 ^ 32 ≡ m.clock = omega (arith, ticks) in due ∙ whole) in
+      record {
+        time = something (next_look s.looks);
+        past = λ u is. (let same : next_look s.looks ≡ u = same_thing (next_look s.looks) u is in omega (arith, now, same, on));
+        stamps = λ u j is. (
+            let same : next_look s.looks ≡ u = same_thing (next_look s.looks) u is in
+            let past : s.cells.stamp j ≤ m.clock = (may_follow p place_of d number well here n m s h.common).past j in
+            omega (arith, now, same, past));
+      }
+
+  -- so a look leads on in an attempt
+  pub attempt_looks : (blocks : List ℕ) (k at next most : ℕ) (go : Onward) → Lie p at (act_code (frame_of d number) false (act.Look k) at next) → LeadsOn p place_of d (With (In p place_of d number blocks) IsLooked) (suc most) next go
+      → LeadsOn p place_of d (In p place_of d number blocks) (suc most) at (act_steps d (act.Look k) (straight go))
+  attempt_looks blocks k at next most go lies leads =
+      look_leads (In p place_of d number blocks) (With (In p place_of d number blocks) IsLooked) k at next (λ n m s h. h.common)
+      (λ n m s related h due steps there gone.
+      (attempt_behind p place_of d number blocks n steps m there _ s _ h gone refl refl refl refl h.within, looked blocks n m there s h due (later p place_of d number n steps m there _ s _ gone))) lies most go leads

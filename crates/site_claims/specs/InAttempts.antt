@@ -1,5 +1,5 @@
 -- What is known between the acts of an attempt, inside blocks.
-use Rattle.std.specs.Prelude.{List, ◌≡◌, ◌≢◌, ℕ, ◌≤◌, Bool, Some, None}
+use Rattle.std.specs.Prelude.{List, ◌≡◌, ℕ, ◌≤◌, Some}
 use Rattle.std.specs.List.{AllByRecursion}
 use Rattle.devices.specs.Journal.{Place}
 use Rattle.io_flow.specs.Written.{AllWithin}
@@ -12,8 +12,7 @@ use Rattle.word_machine.specs.Straight.{Spot}
 use Rattle.run_plan.specs.Cells.{State}
 use Rattle.run_plan.specs.Runs.{Onward}
 use Rattle.run_plan.specs.Small.{Doing}
-use Rattle.act_refines.specs.Does.{HasAim, IsCalledWith}
-use Rattle.code_cuts.specs.Asked.{HasArguments, HasBegun, HasMode, HasOuter, HasTarget, HasTime}
+use Rattle.code_cuts.specs.Asked.{HasBegun, HasMode, HasOuter, HasTime}
 use Rattle.code_cuts.specs.Lasting.{Lasts}
 use Rattle.code_runs.specs.Claims.{Common}
 use Rattle.code_runs.specs.Following.{Leads}
@@ -46,20 +45,13 @@ With Holds More n m s = Holds n m s × More m s
 abbrev pub Never : ℕ → Spot → State → Type 0
 Never n m s = ⊥
 
--- ---- between the acts of a site
+-- ---- behind a look
 
 -- a look was taken: its time isn't of the future, and no stamp is later than it
 pub record IsLooked (m : Spot) (s : State) : Type 0 where
   pub time : HasTime m s
   pub past : (u : ℕ) → s.frame.time ≡ Some u → u ≤ m.clock
   pub stamps : (u k : ℕ) → s.frame.time ≡ Some u → s.cells.stamp k ≤ u
-
--- a call was valued: its target, if it has one, and so many arguments
-pub record IsValued (aims : Bool) (count : ℕ) (m : Spot) (s : State) : Type 0 where
-  pub target : HasTarget m s
-  pub aim : HasAim aims m s
-  pub args : HasArguments m s
-  pub called : IsCalledWith count m s
 
 -- ---- leading on
 
