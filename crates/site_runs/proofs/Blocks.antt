@@ -18,6 +18,7 @@ use Rattle.task_attempts.specs.Changes.{put}
 use Rattle.task_attempts.specs.Told.{next_look}
 use Rattle.word_machine.specs.State.{Program}
 use Rattle.word_machine.specs.Straight.{Spot}
+use Rattle.line_laws.specs.Standing.{Lie}
 use Rattle.run_plan.specs.declared.act.Act.{Act}
 use Rattle.run_plan.specs.declared.act.Act.TheVariants as act
 use Rattle.run_plan.specs.Cells.{State, puts_flag, puts_stamp}
@@ -25,9 +26,9 @@ use Rattle.run_plan.specs.Deeds.{leaving, look_done, seal_done, sealed, stamp_he
 use Rattle.run_plan.specs.PlanOf.{block_end_acts}
 use Rattle.run_plan.specs.Rows.{act_row_of}
 use Rattle.run_plan.specs.RunRows.{run_joined, run_leave}
-use Rattle.run_plan.specs.Runs.{Onward, act_run, acts_run, by_way}
+use Rattle.run_plan.specs.Runs.{Onward, act_run, act_steps, acts_run, by_way, straight}
 use Rattle.run_plan.specs.Small.{Doing, Way, ahead, first_way, second_way, third_way, core_of, does, have, sets_frame, writing}
-use Rattle.word_code.specs.ActCode.{acts_entry, entry}
+use Rattle.word_code.specs.ActCode.{act_code, acts_entry, entry}
 use Rattle.word_code.specs.ActLaws.{entry_of_acts}
 use Rattle.word_code.specs.Frames.{Frame}
 use Rattle.word_code.specs.Sizes.{act_size, acts_size}
@@ -43,7 +44,6 @@ use Rattle.site_claims.specs.InAttempts.{In, IsAround, IsLooked, LeadsOn, Never,
 use Rattle.site_claims.proofs.Behind.{around_later, attempt_behind, attempt_kept}
 use Rattle.site_claims.proofs.Leading.{act_leads, each_way, no_leads, straight_leads}
 use Rattle.site_claims.proofs.Lists.{lists_lie}
-use Rattle.site_claims.proofs.Looks.{LookLaws, look_leads}
 use Rattle.site_runs.specs.Bodies.{BlocksLead, IsBlockOf}
 use Rattle.site_runs.proofs.Claims.{all_around, still_around}
 use Rattle.site_runs.proofs.Finding.{to_site}
@@ -62,13 +62,10 @@ put_here k x f = ap (λ b. cond b x (f k)) (eq-eqb k k refl)
 put_other : {A : Type 0} (k j : ℕ) (x : A) (f : ℕ → A) → (k ≡ j → ⊥) → put k x f j ≡ f j
 put_other k j x f apart = ap (λ b. cond b x (f j)) (ne_eqb k j apart)
 
--- a clock that fits a word is its own word
-own_word : (n : ℕ) → n < 2 ^ 32 → n % 2 ^ 32 ≡ n
-own_word n fits = omega (arith, fits)
-
 -- the laws on the code of a block's acts, as an argument of what goes by them
 pub record BlockLaws (p : Program) (place_of : ℕ → Place) : Type 0 where
-  pub look : LookLaws p place_of
+  pub looks : (d : Doing) (number : ℕ) → IsWellFormed (core_of d) → task_of (core_of d) number ≡ Some d.setting.task → (k : ℕ) (blocks : List ℕ) (most at next : ℕ) (go : Onward) → Lie p at (act_code (frame_of d number) false (act.Look k) at next)
+      → LeadsOn p place_of d (With (In p place_of d number blocks) IsLooked) (suc most) next go → LeadsOn p place_of d (In p place_of d number blocks) (suc most) at (act_steps d (act.Look k) (straight go))
   pub enters : (d : Doing) (number k : ℕ) (ann : Ann) → IsSite k → slice_get d.setting.task.sites (k - 1) ≡ Some (site.Block ann) → FitsLimit ann → DoesAct p place_of d number false (act.Enter k) (IsEarlier k)
   pub enters_cut : (d : Doing) (number k : ℕ) → CutsAct p place_of d number false (act.Enter k) IsTimed
   pub leaves : (d : Doing) (number k : ℕ) (acts : List Act) → IsSite k → DoesAct p place_of d number false (act.Leave k acts) Nothing
@@ -112,19 +109,6 @@ module _ (p : Program) (place_of : ℕ → Place) (law : BlockLaws p place_of) (
   Left blocks k third_way = Never
 
   -- ---- each act keeps what is known
-
-  look_keeps : (blocks : List ℕ) (k n : ℕ) (m : Spot) (s : State) → Inside blocks n m s → IsDue m s → Keeps p place_of d number (AnyWay (Looked blocks)) n m s (look_done k s)
-  look_keeps blocks k n m s h due = λ steps there gone.
-      let ticks : m.clock + n < 2 ^ 32 = h.common.ticks in
-      let now : next_look s.looks ≡ m.clock = due ∙ own_word m.clock (omega (arith, ticks)) in
-      let on : m.clock ≤ there.clock = later p place_of d number n steps m there _ s _ gone in (
-        attempt_behind p place_of d number blocks n steps m there _ s _ h gone refl refl refl refl h.within,
-        record {
-          time = something (next_look s.looks);
-          past = λ u is. (let same : next_look s.looks ≡ u = cc is in omega (arith, same, now, on));
-          stamps = λ u j is. (let same : next_look s.looks ≡ u = cc is in let past : s.cells.stamp j ≤ m.clock = (may_follow p place_of d number well here n m s h.common).past j in omega (arith, same, now, past));
-        },
-      )
 
   enter_keeps : (blocks : List ℕ) (k : ℕ) → AllByRecursion (λ j. j < k) blocks → (n : ℕ) (m : Spot) (s : State) → Looked blocks n m s → (o : Option Mode) (u : Option ℕ) → s.frame.time ≡ u
       → Keeps p place_of d number (AnyWay (Inside (k ∷ blocks))) n m s
@@ -223,5 +207,4 @@ module _ (p : Program) (place_of : ℕ → Place) (law : BlockLaws p place_of) (
       (subst (LeadsOn p place_of d (Inside (k ∷ blocks)) (suc most) (acts_entry body body_at leave_at)) (sym (run_joined d again body ends go)) (inner most body_at leave_at again (acts_run d again ends go) parts.0 leaving_so)) in
       let entering_so : LeadsOn p place_of d (Looked blocks) (suc most) enter_at (act_run d again (act.Enter k) (acts_run d again (body ++ ends) go)) =
       enter_leads k blocks is earlier most enter_at (acts_entry (body ++ ends) body_at next) again (acts_run d again (body ++ ends) go) lies.1.0 body_so in
-      look_leads p place_of law.look d number well here (Inside blocks) (Looked blocks) k at enter_at (λ n m s h. h.common) (λ n m s related h due. look_keeps blocks k n m s h due) lies.0 most
-      (act_run d again (act.Enter k) (acts_run d again (body ++ ends) go)) entering_so
+      law.looks d number well here k blocks most at enter_at (act_run d again (act.Enter k) (acts_run d again (body ++ ends) go)) lies.0 entering_so

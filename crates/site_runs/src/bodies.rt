@@ -10,29 +10,27 @@ ghost use Rattle.task_ast.specs.WellFormed.{IsCoreTask, IsWellFormed};
 ghost use Rattle.task_attempts.specs.Boots.{task_of};
 ghost use Rattle.word_machine.specs.State.{Program};
 
-use act_laws::a_look_keeps_the_time;
 use act_refines::{
     a_block_is_entered_as_planned, a_block_is_left_as_planned, a_block_is_sealed_as_planned,
-    a_lock_is_set_as_planned, a_look_is_as_planned, a_record_is_dropped_as_planned,
-    a_region_is_restored_as_planned, a_region_is_saved_as_planned, a_statement_is_done_as_planned,
-    a_test_goes_as_planned, an_attempt_begins_as_planned, an_attempt_begins_under_bank_as_planned,
+    a_lock_is_set_as_planned, a_record_is_dropped_as_planned, a_region_is_restored_as_planned,
+    a_region_is_saved_as_planned, a_statement_is_done_as_planned, a_test_goes_as_planned,
+    an_attempt_begins_as_planned, an_attempt_begins_under_bank_as_planned,
     memory_is_related_between_acts,
 };
 use code_cuts::{
     a_beginning_is_cut_well, a_beginning_of_a_block_is_cut_well, a_commit_is_cut_well,
-    a_commit_leaves_a_step, a_dropped_record_is_cut_well, a_lock_is_cut_well, a_look_is_cut_well,
+    a_commit_leaves_a_step, a_dropped_record_is_cut_well, a_lock_is_cut_well,
     a_region_is_restored_in_cuts, a_region_is_saved_in_cuts, a_sealed_block_is_cut_well,
     a_statement_is_cut_well, a_test_is_cut_well, an_end_of_a_block_is_cut_well,
 };
+use site_claims::looks_lead_on;
 
 /// Where the acts of a block's body lead on inside it, the block's acts lead on inside the blocks around: its beginning and the
 /// mode outside are noted within, and at its end the mode is back and its record sealed anew unless it kept.
 pub fn blocks_lead_on()
     ensures { (p : Program) (place_of : ℕ → Place) (d : Doing) (number : ℕ) → IsWellFormed (core_of d) → task_of (core_of d) number ≡ Some d.setting.task → BlocksLead p place_of d number }
 {
-    a_look_keeps_the_time();
-    a_look_is_as_planned();
-    a_look_is_cut_well();
+    looks_lead_on();
     a_block_is_entered_as_planned();
     a_beginning_of_a_block_is_cut_well();
     a_block_is_left_as_planned();

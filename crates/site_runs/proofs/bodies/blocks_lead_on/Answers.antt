@@ -6,11 +6,7 @@ use Rattle.site_runs.proofs.bodies.blocks_lead_on.Goals as goal
 pub returns : goal.returns
 returns c = λ p place_of d number well here.
     let law : BlockLaws p place_of = record {
-      look = record {
-        looked = c.a_look_keeps_the_time.ensures p;
-        looks = λ d number k. c.a_look_is_as_planned.ensures p place_of d number false k;
-        looks_cut = λ d number k. c.a_look_is_cut_well.ensures p place_of d number false k;
-      };
+      looks = λ d number. c.looks_lead_on.ensures p place_of d number;
       enters = λ d number. c.a_block_is_entered_as_planned.ensures p place_of d number false;
       enters_cut = λ d number. c.a_beginning_of_a_block_is_cut_well.ensures p place_of d number false;
       leaves = λ d number k acts. c.a_block_is_left_as_planned.ensures p place_of d number false k acts;
