@@ -1,0 +1,2 @@
+pub mod LogSeals
+pub mod Journals

@@ -1,0 +1,12 @@
+//! Seals.
+ghost use Rattle.std.specs.Prelude.{◌≡◌, ℕ};
+
+#[tactic(auto, using(crate::proofs::Journals::boots_sealed))]
+pub fn probe_journals()
+    ensures { (n : ℕ) → n ≡ n }
+{}
+
+#[tactic(auto, using(crate::proofs::LogSeals::expected_sealed))]
+pub fn probe_log()
+    ensures { (n : ℕ) → n ≡ n }
+{}
