@@ -1,2 +1,3 @@
 pub mod LogSeals
 pub mod Journals
+pub mod Flow

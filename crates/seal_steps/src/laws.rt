@@ -10,3 +10,8 @@ pub fn probe_journals()
 pub fn probe_log()
     ensures { (n : ℕ) → n ≡ n }
 {}
+
+#[tactic(auto, using(crate::proofs::Flow::region))]
+pub fn probe_flow()
+    ensures { (n : ℕ) → n ≡ n }
+{}
