@@ -94,6 +94,11 @@ IsCalm lo hi out at (Time a) = is_free a ≡ true
 IsCalm lo hi out at (Dma a b m) = ⊥
 IsCalm lo hi out at (Trap m) = ⊤
 
+-- lines with a claim on each
+abbrev pub AllOk : (Ok : ℕ → Instr → Type 0) → (at : ℕ) → List Line → Type 0
+AllOk Ok at [] = ⊤
+AllOk Ok at (l ∷ ls) = Ok at l.instr × AllOk Ok (at + 1) ls
+
 -- ---- one step
 
 abbrev pub is_on : State → Bool
@@ -267,11 +272,6 @@ module _ (c : Core) (place_of : ℕ → Place) where
         by : (is_on (step p (live m)) ≡ false) ⊎ To K lo hi out m → AllFollow c place_of p j (step p (live m))
         by (inl off) = ended_fine j (step p (live m)) off
         by (inr to) = subst (AllFollow c place_of p j) (sym to.steps) (on to.there to.known to.goes)
-
-    -- lines with a claim on each
-    abbrev pub AllOk : (Ok : ℕ → Instr → Type 0) → (at : ℕ) → List Line → Type 0
-    AllOk Ok at [] = ⊤
-    AllOk Ok at (l ∷ ls) = Ok at l.instr × AllOk Ok (at + 1) ls
 
     pub record OkAt (Ok : ℕ → Instr → Type 0) (at : ℕ) : Type 0 where
       pub instr : Instr

@@ -1,3 +1,4 @@
 pub mod LogSeals
 pub mod Journals
 pub mod Flow
+pub mod Lines

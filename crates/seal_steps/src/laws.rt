@@ -15,3 +15,8 @@ pub fn probe_log()
 pub fn probe_flow()
     ensures { (n : ℕ) → n ≡ n }
 {}
+
+#[tactic(auto, using(crate::proofs::Lines::steadier))]
+pub fn probe_lines()
+    ensures { (n : ℕ) → n ≡ n }
+{}
