@@ -57,7 +57,7 @@ free_last a is = by (nat_lt 0 a) (nat_lt a 15) refl is
     by true false is both = absurd (cc both)
     by false d is both = absurd (cc both)
 
-still_fixed : (a word : ℕ) (regs : ℕ → ℕ) → is_free a ≡ true → (regs 0 ≡ 0) × (regs 15 ≡ 1048576) → (put regs a word 0 ≡ 0) × (put regs a word 15 ≡ 1048576)
+pub still_fixed : (a word : ℕ) (regs : ℕ → ℕ) → is_free a ≡ true → (regs 0 ≡ 0) × (regs 15 ≡ 1048576) → (put regs a word 0 ≡ 0) × (put regs a word 15 ≡ 1048576)
 still_fixed a word regs is fixed = (other_than a 0 (free_first a is) regs word ∙ fixed.0, other_than a 15 (free_last a is) regs word ∙ fixed.1)
 
 -- ---- places where a line may lead
@@ -176,7 +176,7 @@ module _ (c : Core) (place_of : ℕ → Place) where
     unfolding event_next
     event_here m i there = rw there
 
-    here_quiet : (m : Spot) (i : Instr) → p.instr m.pc ≡ Some i → IsQuiet (machine.event p.values (p.mark m.pc) i (live m)) → StepFollows c place_of p (live m)
+    pub here_quiet : (m : Spot) (i : Instr) → p.instr m.pc ≡ Some i → IsQuiet (machine.event p.values (p.mark m.pc) i (live m)) → StepFollows c place_of p (live m)
     here_quiet m i there quiet = quiet_follows (live m) (subst IsQuiet (sym (event_here m i there)) (by (fault i (live m))))
       where
         by : (f : Option ℕ) → IsQuiet (unless_fault f (machine.event p.values (p.mark m.pc) i (live m)))

@@ -71,14 +71,14 @@ second_true : (a b : Bool) → (a && b) ≡ true → b ≡ true
 second_true true b is = is
 second_true false b is = absurd (cc is)
 
-both_true : (a b : Bool) → a ≡ true → b ≡ true → (a && b) ≡ true
+pub both_true : (a b : Bool) → a ≡ true → b ≡ true → (a && b) ≡ true
 both_true true b one two = two
 both_true false b one two = absurd (cc one)
 
 no_less : (m n k : ℕ) → n ≤ k → nat_le m n ≡ true → nat_le m k ≡ true
 no_less m n k more is = grind (arith, nat_tests)
 
-pub steadier : (i : Instr) (n k : ℕ) → n ≤ k → steady i n ≡ true → steady i k ≡ true
+steadier : (i : Instr) (n k : ℕ) → n ≤ k → steady i n ≡ true → steady i k ≡ true
 steadier (Jz a m) n k more is = no_less m n k more is
 steadier Halt n k more is = is
 steadier (Ldi a m) n k more is = is

@@ -16,7 +16,27 @@ pub fn probe_flow()
     ensures { (n : ℕ) → n ≡ n }
 {}
 
-#[tactic(auto, using(crate::proofs::Lines::steadier))]
+#[tactic(auto, using(crate::proofs::Lines::both_true))]
 pub fn probe_lines()
+    ensures { (n : ℕ) → n ≡ n }
+{}
+
+#[tactic(auto, using(crate::proofs::Acts::leave_flows))]
+pub fn probe_acts()
+    ensures { (n : ℕ) → n ≡ n }
+{}
+
+#[tactic(auto, using(crate::proofs::Telling::issue_flows))]
+pub fn probe_telling()
+    ensures { (n : ℕ) → n ≡ n }
+{}
+
+#[tactic(auto, using(crate::proofs::Statements::statement_flow))]
+pub fn probe_statements()
+    ensures { (n : ℕ) → n ≡ n }
+{}
+
+#[tactic(auto, using(crate::proofs::Tasks::restores_flow))]
+pub fn probe_tasks()
     ensures { (n : ℕ) → n ≡ n }
 {}
