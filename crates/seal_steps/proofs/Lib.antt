@@ -6,3 +6,4 @@ pub mod Acts
 pub mod Telling
 pub mod Statements
 pub mod Tasks
+pub mod Whole

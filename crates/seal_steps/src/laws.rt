@@ -40,3 +40,8 @@ pub fn probe_statements()
 pub fn probe_tasks()
     ensures { (n : ℕ) → n ≡ n }
 {}
+
+#[tactic(auto, using(crate::proofs::Whole::journal_sealed))]
+pub fn probe_whole()
+    ensures { (n : ℕ) → n ≡ n }
+{}
