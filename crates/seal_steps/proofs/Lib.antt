@@ -7,3 +7,4 @@ pub mod Telling
 pub mod Statements
 pub mod Tasks
 pub mod Whole
+pub mod Claims

@@ -45,3 +45,8 @@ pub fn probe_tasks()
 pub fn probe_whole()
     ensures { (n : ℕ) → n ≡ n }
 {}
+
+#[tactic(auto, using(crate::proofs::Claims::mild_range))]
+pub fn probe_claims()
+    ensures { (n : ℕ) → n ≡ n }
+{}
