@@ -8,3 +8,5 @@ pub mod Statements
 pub mod Tasks
 pub mod Whole
 pub mod Claims
+pub mod Transfers
+pub mod Loops

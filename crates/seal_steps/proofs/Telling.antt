@@ -59,7 +59,7 @@ module _ (place_of : ℕ → Place) (p : Program) where
   to_jump m t there = rw there
 
   -- a trap is told
-  trap_told : (m : Spot) (i : Instr) (code : ℕ) → p.instr m.pc ≡ Some i → fault i (live m) ≡ Some code → journal_event place_of p (live m) ≢ []
+  pub trap_told : (m : Spot) (i : Instr) (code : ℕ) → p.instr m.pc ≡ Some i → fault i (live m) ≡ Some code → journal_event place_of p (live m) ≢ []
   unfolding stepped_next
   trap_told m i code there is none = by (step p (live m)).ending (trapped m i code there is) none
     where

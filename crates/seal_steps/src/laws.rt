@@ -50,3 +50,13 @@ pub fn probe_whole()
 pub fn probe_claims()
     ensures { (n : ℕ) → n ≡ n }
 {}
+
+#[tactic(auto, using(crate::proofs::Transfers::transfer_claim))]
+pub fn probe_transfers()
+    ensures { (n : ℕ) → n ≡ n }
+{}
+
+#[tactic(auto, using(crate::proofs::Loops::keep_soon))]
+pub fn probe_loops()
+    ensures { (n : ℕ) → n ≡ n }
+{}
