@@ -63,7 +63,7 @@ inside_straight x k =
 enter_straight : (x : Ann) (k : ℕ) → Straight (own_size x + 12) (enter_code x k)
 enter_straight x k = straight_as (own_size x + 12) (also (inside_straight x k) (record { long = refl; steady = refl })) (omega arith)
 
-keeps_straight : (o : Option Site) (k : ℕ) → Straight (keeps_size o) (keeps_code o k)
+pub keeps_straight : (o : Option Site) (k : ℕ) → Straight (keeps_size o) (keeps_code o k)
 keeps_straight None k = record { long = refl; steady = refl }
 keeps_straight (Some (site.Io x)) k = straight_as (own_size x + 10) (also (inside_straight x k) (record { long = refl; steady = refl })) (omega arith)
 keeps_straight (Some (site.Block x)) k = record { long = refl; steady = refl }
@@ -169,7 +169,7 @@ module _ (c : Core) (place_of : ℕ → Place) (p : Program) where
   straight_jump at k next lines h lies n behind = calm_jump at k next lines (straight at (at + k) nowhere at (omega arith) (omega arith) h) lies n behind
 
   -- lines before a branch
-  branch_range : (at k to other : ℕ) (lines more : List Line) → Straight k lines → Lie p at (lines ++ (branch to other ++ more)) → (n : ℕ) → Fixed n to → Fixed n other → Fixed n at
+  pub branch_range : (at k to other : ℕ) (lines more : List Line) → Straight k lines → Lie p at (lines ++ (branch to other ++ more)) → (n : ℕ) → Fixed n to → Fixed n other → Fixed n at
   branch_range at k to other lines more h lies n one two =
       let x : ℕ = at + k in
       let here : Lie p x (branch to other ++ more) = lie_behind p at lines (branch to other ++ more) x lies (omega (arith, h.long)) in
@@ -184,7 +184,7 @@ module _ (c : Core) (place_of : ℕ → Place) (p : Program) where
 
   -- ---- what makes words safe
 
-  lies_both : (x y : ℕ) (a b : List Line) → y ≡ x + length a → Lie p x a → Lie p y b → Lie p x (a ++ b)
+  pub lies_both : (x y : ℕ) (a b : List Line) → y ≡ x + length a → Lie p x a → Lie p y b → Lie p x (a ++ b)
   lies_both x y [] b is one two = let same : y ≡ x = omega (arith, is) in subst (λ (k : ℕ). Lie p k b) same two
   lies_both x y (l ∷ a) b is one two = (one.0, lies_both (x + 1) y a b (omega (arith, is)) one.1 two)
 

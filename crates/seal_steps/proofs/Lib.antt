@@ -10,3 +10,4 @@ pub mod Whole
 pub mod Claims
 pub mod Transfers
 pub mod Loops
+pub mod Classes

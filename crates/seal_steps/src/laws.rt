@@ -60,3 +60,8 @@ pub fn probe_transfers()
 pub fn probe_loops()
     ensures { (n : ℕ) → n ≡ n }
 {}
+
+#[tactic(auto, using(crate::proofs::Classes::class_goes))]
+pub fn probe_classes()
+    ensures { (n : ℕ) → n ≡ n }
+{}
