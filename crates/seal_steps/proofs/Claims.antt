@@ -49,7 +49,7 @@ low_both (x ∷ xs) ys one two = (one.0, low_both xs ys one.1 two)
 abbrev pub SameRam : (store store' : ℕ → ℕ) → Type 0
 SameRam store store' = (x : ℕ) → 65536 ≤ x → store' x ≡ store x
 
-not_here : (a x w : ℕ) (store : ℕ → ℕ) → a < x → put store a w x ≡ store x
+pub not_here : (a x w : ℕ) (store : ℕ → ℕ) → a < x → put store a w x ≡ store x
 not_here a x w store less = by (a == x) refl
   where
     by : (b : Bool) → (a == x) ≡ b → (if b then w else store x) ≡ store x

@@ -11,3 +11,4 @@ pub mod Claims
 pub mod Transfers
 pub mod Loops
 pub mod Classes
+pub mod CopyActs

@@ -65,3 +65,8 @@ pub fn probe_loops()
 pub fn probe_classes()
     ensures { (n : ℕ) → n ≡ n }
 {}
+
+#[tactic(auto, using(crate::proofs::CopyActs::bound_told))]
+pub fn probe_copy_acts()
+    ensures { (n : ℕ) → n ≡ n }
+{}
