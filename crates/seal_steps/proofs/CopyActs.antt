@@ -130,7 +130,7 @@ module _ (c : Core) (place_of : ℕ → Place) (p : Program) where
         below (inl at_first) = omega (arith, at_first.0, at_first.1)
         below (inr later) = omega (arith, later)
 
-    single_flows : (k b next : ℕ) → ActsLie p f false (act.Transfer k Across ∷ act.KeepWords k ∷ act.Seal k ∷ []) b next → Fixed c place_of p n next → Where c place_of p (Both Classed (IsClass 1 true)) n b
+    pub single_flows : (k b next : ℕ) → ActsLie p f false (act.Transfer k Across ∷ act.KeepWords k ∷ act.Seal k ∷ []) b next → Fixed c place_of p n next → Where c place_of p (Both Classed (IsClass 1 true)) n b
     single_flows k b next lies behind =
         let keep_at : ℕ = b + act_size f (act.Transfer k Across) in
         let seal_at : ℕ = keep_at + act_size f (act.KeepWords k) in
@@ -181,7 +181,7 @@ module _ (c : Core) (place_of : ℕ → Place) (p : Program) where
     rest_open to from w high above (address x) x_is keep y_is = refl
     rest_open to from w high above (address x) x_is (address y) y_is = refl
 
-    rest_flows : (k b next : ℕ) → ActsLie p f false (act.Transfer k Across ∷ []) b next → Fixed c place_of p n next → Where c place_of p (Both (Both Classed (IsClass 1 false)) (IsClass 2 false)) n b
+    pub rest_flows : (k b next : ℕ) → ActsLie p f false (act.Transfer k Across ∷ []) b next → Fixed c place_of p n next → Where c place_of p (Both (Both Classed (IsClass 1 false)) (IsClass 2 false)) n b
     rest_flows k b next lies behind =
         let three : List Instr = Ld 1 15 40 ∷ Ld 2 15 42 ∷ Ld 3 15 44 ∷ [] in
         let rest : List Line = marked (sign f mark.Copy k) (Dma 1 2 3) ∷ jump next in
@@ -208,7 +208,7 @@ module _ (c : Core) (place_of : ℕ → Place) (p : Program) where
     abbrev AnyMoving : (to from words k : ℕ) → (regs store : ℕ → ℕ) → Type 0
     AnyMoving to from words k regs store = FixedRegs regs
 
-    to_kept_flows : (k b seal_at : ℕ) → Lie p b (transfer_code f k ToKept ++ jump seal_at) → Soon place_of p 9 seal_at → Fixed c place_of p n seal_at → Fixed c place_of p n b
+    pub to_kept_flows : (k b seal_at : ℕ) → Lie p b (transfer_code f k ToKept ++ jump seal_at) → Soon place_of p 9 seal_at → Fixed c place_of p n seal_at → Fixed c place_of p n b
     to_kept_flows k b seal_at lies soon behind =
         let three : List Line = bares (Ldi 1 (kept_at f k) ∷ Ld 2 15 42 ∷ Ld 3 15 44 ∷ []) in
         let rest : List Line = marked (sign f mark.Copy k) (Dma 1 2 3) ∷ jump seal_at in
@@ -238,7 +238,7 @@ module _ (c : Core) (place_of : ℕ → Place) (p : Program) where
     from_open k from w is (address x) x_is keep = refl
     from_open k from w is (address x) x_is (address y) = refl
 
-    from_kept_flows : (k b next : ℕ) → Lie p b (transfer_code f k FromKept ++ jump next) → Fixed c place_of p n next → Fixed c place_of p n b
+    pub from_kept_flows : (k b next : ℕ) → Lie p b (transfer_code f k FromKept ++ jump next) → Fixed c place_of p n next → Fixed c place_of p n b
     from_kept_flows k b next lies behind =
         let three : List Instr = Ld 1 0 (ends_at k) ∷ Ldi 2 (kept_at f k) ∷ Ld 3 0 (ends_at k + 2) ∷ [] in
         let rest : List Line = marked (sign f mark.Copy k) (Dma 1 2 3) ∷ jump next in

@@ -12,3 +12,5 @@ pub mod Transfers
 pub mod Loops
 pub mod Classes
 pub mod CopyActs
+pub mod CopyFlows
+pub mod Every

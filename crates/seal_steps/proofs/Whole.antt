@@ -57,7 +57,7 @@ use Rattle.seal_steps.proofs.Tasks.{Any, commit_flows, halt_flows, head_flows, r
 some_of : {A : Type 0} (x y : A) → Some x ≡ Some y → x ≡ y
 some_of x y is = cc is
 
-all_at : {A : Type 0} (P : A → Type 0) (xs : List A) (n : ℕ) (x : A) → AllByRecursion P xs → slice_get xs n ≡ Some x → P x
+pub all_at : {A : Type 0} (P : A → Type 0) (xs : List A) (n : ℕ) (x : A) → AllByRecursion P xs → slice_get xs n ≡ Some x → P x
 all_at P [] n x all there = absurd (cc there)
 all_at P (y ∷ xs) zero x all there = subst P (some_of y x there) all.0
 all_at P (y ∷ xs) (suc n) x all there = all_at P xs n x all.1 there
