@@ -14,3 +14,4 @@ pub mod Classes
 pub mod CopyActs
 pub mod CopyFlows
 pub mod Every
+pub mod Told

@@ -12,6 +12,9 @@ ghost use Rattle.task_attempts.specs.Boots.{expect};
 ghost use Rattle.task_attempts.specs.Journals.{all_events, cuts_of, looks_of};
 ghost use Rattle.task_attempts.specs.Sound.{AllSealed, ends_from};
 ghost use Rattle.task_attempts.specs.State.{Rules};
+ghost use Rattle.word_code.specs.ImageOf.{IsImageOf};
+ghost use Rattle.word_isa.specs.declared.image.Image.{Image};
+ghost use Rattle.word_machine.specs.Places.{place_of};
 ghost use Rattle.word_machine.specs.Runs.{journal};
 ghost use Rattle.word_machine.specs.State.{Program};
 ghost use Rattle.word_machine.specs.Straight.{Spot, live};
@@ -45,3 +48,9 @@ pub fn a_journal_of_the_rules_is_sealed_in_time(c: &Core, scheme: Scheme)
 {
     every_plan_is_within_its_formulas(c, scheme);
 }
+
+/// The places that the image of a plan tells are of the memory in which their addresses lie.
+pub fn the_places_of_an_image_tell_memory(c: &Core, scheme: Scheme)
+    requires { IsWellFormed c.now }
+    ensures { (i : Image) → IsImageOf (plan_of c.now scheme) c.now i → TellsMemory c.now (place_of i.symbols i.stride i.keep i.keep_words) }
+{}
