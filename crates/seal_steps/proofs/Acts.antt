@@ -1,19 +1,15 @@
 -- Where the code of acts leads: from an act's top to what comes next, or to one of its lists.
-use Rattle.std.specs.Prelude.{◌⊎◌, ◌≢◌, ⊤, cond, nat_lt, ◌%◌, ◌*◌, ◌==◌, Option, Some, None}
-use Rattle.std.specs.List.{AllByRecursion}
-use Rattle.std.proofs.Common.{◌≡◌, ◌∙◌, ℕ, zero, suc, ◌+◌, ◌<◌, ◌≤◌, inl, inr, Bool, true, false, List, [], ◌∷◌, ◌++◌, length, refl, sym, ap, subst, arith, if◌then◌else◌}
+use Rattle.std.specs.Prelude.{◌*◌, Option, Some, None}
+use Rattle.std.proofs.Common.{◌≡◌, ◌∙◌, ℕ, zero, suc, ◌+◌, ◌<◌, ◌≤◌, inl, inr, true, false, List, [], ◌∷◌, ◌++◌, length, refl, ap, subst, arith}
 use Rattle.std.proofs.lemmas.Bool.Decides.{nat_tests}
-use Rattle.devices.specs.Journal.{JournalEvent, Place, placed}
-use Rattle.devices.specs.declared.event.Event.{Event}
-use Rattle.fram_ram.specs.Memories.{put}
+use Rattle.devices.specs.Journal.{Place}
 use Rattle.line_code.specs.declared.areas.Placed.{Placed}
 use Rattle.line_code.specs.declared.line.Line.{Line}
-use Rattle.line_code.specs.declared.line.Sign as line
 use Rattle.line_code.specs.Areas.{area_at}
 use Rattle.line_code.specs.Expressions.{expr_code}
 use Rattle.line_code.specs.Lines.{bares, marked}
 use Rattle.line_code.specs.Sizes.{expr_size, statement_size}
-use Rattle.line_laws.specs.Standing.{Lie, Marked, StandsWith, lie_behind, lie_front}
+use Rattle.line_laws.specs.Standing.{Lie, lie_behind, lie_front}
 use Rattle.task_ast.specs.declared.core_form.Array.{Array}
 use Rattle.task_ast.specs.declared.core_form.Core.{Core}
 use Rattle.task_ast.specs.declared.core_form.CoreExpr.{CoreExpr}
@@ -23,26 +19,20 @@ use Rattle.task_ast.specs.declared.core_form.Site.{Site}
 use Rattle.task_ast.specs.declared.core_form.Site.TheVariants as site
 use Rattle.task_ast.specs.declared.tree.Ann.{Ann}
 use Rattle.task_ast.specs.declared.tree.Ann.TheVariants as ann
-use Rattle.word_isa.specs.declared.instr.Instr.{Instr}
-use Rattle.word_isa.specs.declared.instr.Instr.TheVariants.{Add, Adi, Eq, Io, Jmp, Jz, Ld, Ldi, Lui, Mov, Mul, Rem, Shl, Shr, St, Time}
+use Rattle.word_isa.specs.declared.instr.Instr.TheVariants.{Add, Eq, Jmp, Jz, Ld, Ldi, Mov, Mul, St}
 use Rattle.word_isa.specs.declared.mark.MarkKind.TheVariants as mark
-use Rattle.word_machine.specs.Events as machine
 use Rattle.word_machine.specs.State.{Program}
-use Rattle.word_machine.specs.Straight.{Spot, Stand, after, is_plain, live}
-use Rattle.run_plan.specs.declared.act.Act.{Act}
 use Rattle.run_plan.specs.declared.act.Act.TheVariants as act
-use Rattle.word_code.specs.ActCode.{act_code, restored, test_code}
-use Rattle.word_code.specs.Acts.{count_of, drop_code, jump, load_code, lock_code, look_code, record_code, record_lines, seal_code, take_code, write_code}
-use Rattle.word_code.specs.Beginnings.{begin_code, begin_size, first_of, homes_code, homes_size, level_code, level_count, moved_code, restore_code, save_code, unset_code, volatile_code, volatile_count, volatile_words, words_code}
-use Rattle.word_code.specs.Finding.{statement_at}
-use Rattle.word_code.specs.Frames.{Frame, flag_at, lock_at, sign, site_at, stride, stub_at}
-use Rattle.word_code.specs.Heads.{commit_code, fix_code}
+use Rattle.word_code.specs.ActCode.{act_code, test_code}
+use Rattle.word_code.specs.Acts.{drop_code, jump, load_code, lock_code, look_code, seal_code, take_code, write_code}
+use Rattle.word_code.specs.Beginnings.{begin_code, first_of, homes_code, homes_size, level_code, level_count, moved_code, restore_code, save_code, unset_code, volatile_code, volatile_words, words_code}
+use Rattle.word_code.specs.Frames.{Frame, flag_at, lock_at, sign}
 use Rattle.word_code.specs.Repeats.{each}
-use Rattle.word_code.specs.Sizes.{region_size, restored_size, seal_size, write_size}
-use Rattle.word_code.specs.Tables.{ann_of, branch, enter_code, inside_code, keeps_code, keeps_size, leave_code, own_lines, own_size}
+use Rattle.word_code.specs.Sizes.{seal_size, write_size}
+use Rattle.word_code.specs.Tables.{branch, enter_code, inside_code, keeps_code, keeps_size, leave_code, own_lines, own_size}
 use Rattle.word_code.specs.Values.{value_code, value_size}
-use Rattle.seal_steps.proofs.Flow.{AllOk, Behind, Goes, HasFixed, IsCalm, IsQuiet, behind_jump, is_free, calm_leads, event_quiet, fewer, here_quiet, led_fine, mark_quiet, plain_leads, region}
-use Rattle.seal_steps.proofs.Lines.{Calm, CalmCode, Straight, aim_calm, all_steady, both_true, also, args_calm, expr_calm, join, statement_calm, straight, straight_as}
+use Rattle.seal_steps.proofs.Flow.{Behind, HasFixed, IsCalm, behind_jump, is_free, calm_leads, fewer, region}
+use Rattle.seal_steps.proofs.Lines.{Calm, Straight, aim_calm, all_steady, both_true, also, args_calm, expr_calm, join, statement_calm, straight, straight_as}
 
 -- ---- straight templates
 

@@ -6,10 +6,10 @@ use Rattle.devices.specs.Journal.{Place}
 use Rattle.fram_ram.specs.Memories.{put}
 use Rattle.line_code.specs.declared.line.Line.{Line}
 use Rattle.line_code.specs.Lines.{bares}
-use Rattle.line_laws.specs.Standing.{Lie, lie_behind, lie_front}
+use Rattle.line_laws.specs.Standing.{Lie}
 use Rattle.task_ast.specs.declared.core_form.Core.{Core}
 use Rattle.word_isa.specs.declared.instr.Instr.{Instr}
-use Rattle.word_isa.specs.declared.instr.Instr.TheVariants.{Halt, Ldi, Lui, Mov, Add, Sub, Mul, Div, Rem, And, Or, Xor, Shl, Shr, Eq, Ltu, Adi, Ld, St, Jmp, Jz, Io, Time, Dma, Trap}
+use Rattle.word_isa.specs.declared.instr.Instr.TheVariants.{Mov, St, Jmp, Jz, Io, Time, Dma}
 use Rattle.word_machine.specs.Events as machine
 use Rattle.word_machine.specs.Instructions.{act, fault}
 use Rattle.word_machine.specs.RunLaws.{line_ends}
@@ -18,9 +18,8 @@ use Rattle.word_machine.specs.Step.{done, step}
 use Rattle.word_machine.specs.Straight.{Spot, after, is_plain, line, live}
 use Rattle.word_machine.specs.declared.cell.Sign.{Sign}
 use Rattle.seal_steps.specs.Soon.{AllFollow}
-use Rattle.seal_steps.proofs.Acts.{nowhere}
-use Rattle.seal_steps.proofs.Flow.{AllOk, Behind, Goes, HasFixed, IsCalm, IsQuiet, Leads, To, behind_jump, calm_leads, fewer, here_quiet, is_on, led_fine, mark_quiet, plain_leads, region}
-use Rattle.seal_steps.proofs.Lines.{Calm, Straight, straight}
+use Rattle.seal_steps.proofs.Flow.{AllOk, Behind, HasFixed, IsCalm, IsQuiet, Leads, To, behind_jump, calm_leads, fewer, here_quiet, is_on, led_fine, mark_quiet, plain_leads, region}
+use Rattle.seal_steps.proofs.Lines.{Calm}
 
 -- ---- claims
 

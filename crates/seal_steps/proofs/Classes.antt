@@ -1,6 +1,6 @@
 -- A copy that is valued notes its class by its ends; acts up to its transfer leave that alone, and it goes by it.
-use Rattle.std.specs.Prelude.{◌⊎◌, ⊤, ◌%◌, ◌^◌, ◌*◌, ◌==◌, nat_lt, bit_and, Option, Some, None}
-use Rattle.std.proofs.Common.{◌≡◌, ◌∙◌, ℕ, zero, suc, ◌+◌, ◌<◌, ◌≤◌, inl, inr, Bool, true, false, List, [], ◌∷◌, ◌++◌, length, refl, sym, ap, subst, arith, if◌then◌else◌}
+use Rattle.std.specs.Prelude.{◌%◌, ◌^◌, ◌==◌, nat_lt, bit_and, Option, Some, None}
+use Rattle.std.proofs.Common.{◌≡◌, ◌∙◌, ℕ, zero, suc, ◌+◌, ◌≤◌, inl, inr, Bool, true, false, List, [], ◌∷◌, ◌++◌, refl, sym, ap, subst, arith, if◌then◌else◌}
 use Rattle.std.proofs.lemmas.Bool.Decides.{nat_tests}
 use Rattle.devices.specs.Journal.{Place}
 use Rattle.fram_ram.specs.Memories.{put}
@@ -21,7 +21,6 @@ use Rattle.task_ast.specs.declared.tree.Ann.TheVariants as ann
 use Rattle.word_isa.specs.declared.instr.Instr.{Instr}
 use Rattle.word_isa.specs.declared.instr.Instr.TheVariants.{Add, And, Eq, Jmp, Jz, Ld, Ldi, Ltu, Mov, Mul, St}
 use Rattle.word_machine.specs.State.{Program}
-use Rattle.word_machine.specs.Straight.{Spot, line}
 use Rattle.word_code.specs.Acts.{jump, lock_code}
 use Rattle.word_code.specs.Beginnings.{first_of, homes_code, homes_size, moved_code, save_code}
 use Rattle.word_code.specs.Frames.{Frame, lock_at}
@@ -107,9 +106,14 @@ own_low ann.Always k = (tt, tt)
 
 keeps_low : (o : Option Site) (k : ℕ) → AllLow (keeps_code o k)
 keeps_low None k = (tt, (tt, tt))
-keeps_low (Some (site.Io x)) k =
-    (tt, (tt, low_both (own_lines x k ++ bares (Ld 3 15 39 ∷ Mov 4 3 ∷ Eq 4 0 ∷ Mul 1 4 ∷ Add 1 3 ∷ [])) (bares (Ldi 3 1 ∷ Eq 1 3 ∷ And 1 2 ∷ []))
-    (low_both (own_lines x k) (bares (Ld 3 15 39 ∷ Mov 4 3 ∷ Eq 4 0 ∷ Mul 1 4 ∷ Add 1 3 ∷ [])) (own_low x k) (tt, (tt, (tt, (tt, (tt, tt)))))) (tt, (tt, (tt, tt)))))
+keeps_low (Some (site.Io x)) k = (
+  tt,
+  (
+    tt,
+    low_both (own_lines x k ++ bares (Ld 3 15 39 ∷ Mov 4 3 ∷ Eq 4 0 ∷ Mul 1 4 ∷ Add 1 3 ∷ [])) (bares (Ldi 3 1 ∷ Eq 1 3 ∷ And 1 2 ∷ []))
+        (low_both (own_lines x k) (bares (Ld 3 15 39 ∷ Mov 4 3 ∷ Eq 4 0 ∷ Mul 1 4 ∷ Add 1 3 ∷ [])) (own_low x k) (tt, (tt, (tt, (tt, (tt, tt)))))) (tt, (tt, (tt, tt))),
+  ),
+)
 keeps_low (Some (site.Block x)) k = (tt, (tt, tt))
 keeps_low (Some (site.Copy n)) k = (tt, (tt, tt))
 

@@ -1,11 +1,10 @@
 -- Where the acts of a copy lead, and that a seal comes soon behind each of its transfers behind which one must.
-use Rattle.std.specs.Prelude.{◌⊎◌, ⊤, ◌%◌, ◌^◌, ◌*◌, ◌==◌, ◌&&◌, ◌||◌, nat_le, nat_lt, IfSome, slice_get, Option, Some, None}
-use Rattle.std.proofs.Common.{◌≡◌, ◌∙◌, ℕ, zero, suc, ◌+◌, ◌<◌, ◌≤◌, inl, inr, Bool, true, false, List, [], ◌∷◌, ◌++◌, length, refl, sym, ap, subst, arith}
+use Rattle.std.specs.Prelude.{◌⊎◌, ◌%◌, ◌^◌, ◌*◌, ◌&&◌, ◌||◌, nat_le, nat_lt, IfSome, slice_get, Option, Some, None}
+use Rattle.std.proofs.Common.{◌≡◌, ◌∙◌, ℕ, ◌+◌, ◌<◌, ◌≤◌, inl, inr, Bool, true, false, List, [], ◌∷◌, ◌++◌, refl, sym, ap, subst, arith}
 use Rattle.std.proofs.lemmas.Bool.Decides.{nat_tests}
 use Rattle.devices.specs.Journal.{Place, address, cell, copies, keep}
 use Rattle.fram_ram.specs.Memories.{has_word, put}
 use Rattle.line_code.specs.declared.line.Line.{Line}
-use Rattle.line_code.specs.Areas.{area_at}
 use Rattle.line_code.specs.Lines.{bares, marked}
 use Rattle.line_laws.specs.Standing.{Lie, lie_behind, lie_front}
 use Rattle.region_split.specs.Class.{class_into_ram, class_of}
@@ -14,42 +13,27 @@ use Rattle.region_split.specs.declared.class.DmaClass.TheVariants as class
 use Rattle.region_split.specs.declared.class.Memory.{Memory}
 use Rattle.region_split.specs.declared.class.Memory.TheVariants as memory
 use Rattle.task_ast.specs.declared.core_form.Core.{Core}
-use Rattle.task_ast.specs.declared.core_form.CoreEnd.{CoreEnd}
-use Rattle.task_ast.specs.declared.core_form.CoreExpr.{CoreExpr}
-use Rattle.task_ast.specs.declared.core_form.CoreStmt.TheVariants as stmt
 use Rattle.task_attempts.specs.Copies.{memory_or_ram}
-use Rattle.task_attempts.specs.Sound.{is_sealed, to_seal, transfer_sealed, with_site}
+use Rattle.task_attempts.specs.Sound.{is_sealed, transfer_sealed, with_site}
 use Rattle.word_isa.specs.declared.instr.Instr.{Instr}
-use Rattle.word_isa.specs.declared.instr.Instr.TheVariants.{Dma, Eq, Jmp, Ld, Ldi}
+use Rattle.word_isa.specs.declared.instr.Instr.TheVariants.{Dma, Ld, Ldi}
 use Rattle.word_isa.specs.declared.mark.MarkKind.TheVariants as mark
-use Rattle.word_isa.specs.declared.parts.Scheme.{Scheme}
-use Rattle.word_isa.specs.declared.parts.Scheme.TheVariants.{Undo, Bank}
 use Rattle.word_machine.specs.State.{Program}
 use Rattle.word_machine.specs.Straight.{Spot, line, live}
-use Rattle.run_plan.specs.declared.act.Act.{Act}
 use Rattle.run_plan.specs.declared.act.Act.TheVariants as act
 use Rattle.run_plan.specs.declared.act.Leg.TheVariants.{Across, FromKept, ToKept}
-use Rattle.run_plan.specs.PlanOf.{Around, again_acts, anew_acts, copy_acts, save_acts}
-use Rattle.run_plan.specs.Rows.{act_row_of}
-use Rattle.word_code.specs.ActCode.{acts_entry, entry}
-use Rattle.word_code.specs.ActLaws.{entry_of_acts}
-use Rattle.word_code.specs.Acts.{count_of, jump, seal_code, transfer_code}
-use Rattle.word_code.specs.Finding.{statement_at}
-use Rattle.word_code.specs.Frames.{Frame, ends_at, kept_at, sign, site_at, value_at}
-use Rattle.word_code.specs.Sizes.{act_size, row_size}
-use Rattle.word_code.specs.Tables.{branch, class_test, keeps_size}
-use Rattle.word_code.specs.Values.{copy_code, value_code}
-use Rattle.code_places.specs.Placed.{ActLies, ActsLie}
-use Rattle.code_places.proofs.LineGoods.{LiesLow}
+use Rattle.word_code.specs.Acts.{jump, transfer_code}
+use Rattle.word_code.specs.Frames.{Frame, ends_at, kept_at, sign, site_at}
+use Rattle.word_code.specs.Sizes.{act_size}
+use Rattle.code_places.specs.Placed.{ActsLie}
 use Rattle.seal_steps.specs.Places.{TellsMemory}
 use Rattle.seal_steps.specs.Soon.{FollowsSoon, TellsSoon}
-use Rattle.seal_steps.proofs.Acts.{Fixed, branch_range, calm_range, jump_fixed, none_out, nowhere, seal_flows}
+use Rattle.seal_steps.proofs.Acts.{Fixed, calm_range, jump_fixed, none_out, nowhere, seal_flows}
 use Rattle.seal_steps.proofs.Claims.{Keeping, On, line_claim, not_here}
-use Rattle.seal_steps.proofs.Classes.{Both, Classed, IsClass, Where, choose_keeps, class_goes, classed_moves, forget, lock_keeps, rest_noted, save_keeps, single_noted, valued_classed}
+use Rattle.seal_steps.proofs.Classes.{Both, Classed, IsClass, Where, rest_noted, single_noted}
 use Rattle.seal_steps.proofs.Flow.{Behind, HasFixed}
 use Rattle.seal_steps.proofs.Lines.{Straight, straight}
-use Rattle.seal_steps.proofs.Loops.{keep_flows, keep_soon, put_flows}
-use Rattle.seal_steps.proofs.Statements.{ListFlows, lists_lie}
+use Rattle.seal_steps.proofs.Loops.{keep_flows, keep_soon}
 use Rattle.seal_steps.proofs.Telling.{Soon, seal_soon, soon_jump, tells_within}
 use Rattle.seal_steps.proofs.Transfers.{IsTransfer, transfer_claim}
 

@@ -1,12 +1,12 @@
 -- Where the acts of each copy of a task lead: to what comes behind them.
-use Rattle.std.specs.Prelude.{⊤, ◌-◌, take, map, slice_get, sum_by, Option, Some, None}
+use Rattle.std.specs.Prelude.{Some}
 use Rattle.std.specs.List.{AllByRecursion}
-use Rattle.std.proofs.Common.{◌≡◌, ◌∙◌, ℕ, zero, suc, ◌+◌, ◌<◌, ◌≤◌, Bool, true, false, List, [], ◌∷◌, ◌++◌, length, refl, sym, ap, subst, arith}
+use Rattle.std.proofs.Common.{◌≡◌, ℕ, ◌+◌, ◌<◌, ◌≤◌, true, false, List, [], ◌∷◌, ◌++◌, refl, sym, subst, arith}
 use Rattle.devices.specs.Journal.{Place}
 use Rattle.line_code.specs.declared.line.Line.{Line}
 use Rattle.line_code.specs.Areas.{area_at}
 use Rattle.line_code.specs.Lines.{bares}
-use Rattle.line_laws.specs.Standing.{Lie, lie_behind, lie_front}
+use Rattle.line_laws.specs.Standing.{Lie, lie_behind}
 use Rattle.task_ast.specs.declared.core_form.Core.{Core}
 use Rattle.task_ast.specs.declared.core_form.CoreEnd.{CoreEnd}
 use Rattle.task_ast.specs.declared.core_form.CoreExpr.{CoreExpr}
@@ -30,13 +30,12 @@ use Rattle.word_code.specs.Sizes.{act_size, row_size}
 use Rattle.word_code.specs.Tables.{class_test, keeps_size}
 use Rattle.word_code.specs.Values.{copy_code, value_code}
 use Rattle.word_code.proofs.SiteLaws.{AreFound, IsFound}
-use Rattle.code_places.specs.Placed.{ActLies, ActsLie, RowLies}
+use Rattle.code_places.specs.Placed.{ActLies, ActsLie}
 use Rattle.code_places.proofs.LineGoods.{LiesLow}
 use Rattle.seal_steps.specs.Places.{TellsMemory}
 use Rattle.seal_steps.proofs.Acts.{Fixed, branch_range, seal_flows}
 use Rattle.seal_steps.proofs.Classes.{Both, Classed, IsClass, Where, choose_keeps, class_goes, classed_moves, forget, lock_keeps, save_keeps, valued_classed}
 use Rattle.seal_steps.proofs.CopyActs.{from_kept_flows, rest_flows, single_flows, to_kept_flows}
-use Rattle.seal_steps.proofs.Lines.{Straight}
 use Rattle.seal_steps.proofs.Loops.{put_flows}
 use Rattle.seal_steps.proofs.Statements.{AllCopiesFlow, CopiesFlow, ListFlows, lists_lie}
 use Rattle.seal_steps.proofs.Telling.{seal_soon}

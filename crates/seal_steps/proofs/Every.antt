@@ -1,14 +1,12 @@
 -- So it is of every plan: its copies are found where their sites say, and lead on.
-use Rattle.std.specs.Prelude.{◌-◌, cond, filter, take, slice_get, sum_by, Some}
-use Rattle.std.specs.List.{AllByRecursion}
-use Rattle.std.proofs.Common.{◌≡◌, ℕ, ◌+◌, ◌<◌, ◌≤◌, Bool, true, false, List, [], ◌∷◌, length, arith}
+use Rattle.std.specs.Prelude.{◌-◌, cond, filter, take}
+use Rattle.std.proofs.Common.{◌≡◌, ℕ, ◌+◌, ◌≤◌, Bool, true, false, List, [], ◌∷◌, length, arith}
 use Rattle.std.proofs.lemmas.List.{length-take}
 use Rattle.devices.specs.Journal.{Place}
 use Rattle.devices.specs.declared.world.PowerRow.{PowerRow}
-use Rattle.region_split.specs.Regions.{copies, is_copy, region_of}
-use Rattle.task_ast.specs.WellFormed.{IsCoreTask, IsWellFormed, site_words}
+use Rattle.region_split.specs.Regions.{copies, is_copy}
+use Rattle.task_ast.specs.WellFormed.{IsCoreTask, IsWellFormed}
 use Rattle.task_ast.specs.declared.core_form.Core.{Core}
-use Rattle.task_ast.specs.declared.core_form.CoreTask.{CoreTask}
 use Rattle.task_ast.specs.declared.core_form.Site.{Site}
 use Rattle.task_attempts.specs.Boots.{expect}
 use Rattle.task_attempts.specs.Journals.{all_events, cuts_of, looks_of}
@@ -19,7 +17,6 @@ use Rattle.word_machine.specs.Runs.{journal}
 use Rattle.word_machine.specs.State.{Program}
 use Rattle.word_machine.specs.Straight.{Spot, live}
 use Rattle.run_plan.specs.PlanOf.{around, plan_of}
-use Rattle.word_code.specs.Frames.{kept_at}
 use Rattle.word_code.specs.Within.{HasPlaces}
 use Rattle.word_code.proofs.FitLaws.{plan_fits}
 use Rattle.word_code.proofs.SiteLaws.{body_finds}

@@ -1,15 +1,14 @@
 -- Where a machine's lines lead: what their steps tell needs no seal, and each goes on to a place that is known.
-use Rattle.std.specs.Prelude.{◌⊎◌, ◌≢◌, ⊤, IfSome, nat_lt, ◌&&◌, ◌||◌, ◌==◌, ◌%◌, ◌^◌, Option, Some, None}
+use Rattle.std.specs.Prelude.{◌⊎◌, ⊤, IfSome, nat_lt, ◌&&◌, ◌==◌, ◌%◌, ◌^◌, Option, Some, None}
 use Rattle.std.specs.List.{AllByRecursion}
-use Rattle.std.proofs.Common.{◌≡◌, ◌∙◌, ℕ, zero, suc, ◌+◌, ◌<◌, ◌≤◌, inl, inr, Bool, true, false, List, [], ◌∷◌, ◌++◌, length, refl, sym, ap, subst, arith, if◌then◌else◌}
+use Rattle.std.proofs.Common.{◌≡◌, ◌∙◌, ℕ, zero, suc, ◌+◌, ◌<◌, ◌≤◌, inl, inr, Bool, true, false, List, [], ◌∷◌, length, refl, sym, ap, subst, arith, if◌then◌else◌}
 use Rattle.std.proofs.lemmas.Bool.Decides.{nat_tests}
-use Rattle.devices.specs.Journal.{JournalEvent, Place, placed, traps}
+use Rattle.devices.specs.Journal.{JournalEvent, Place, placed}
 use Rattle.devices.specs.declared.event.Event.{Event}
-use Rattle.devices.specs.declared.event.Event.TheVariants as the
 use Rattle.fram_ram.specs.Memories.{put}
 use Rattle.line_code.specs.declared.line.Line.{Line}
 use Rattle.line_code.specs.declared.line.Sign as line
-use Rattle.line_laws.specs.Standing.{Lie, Marked, StandsWith}
+use Rattle.line_laws.specs.Standing.{Lie, StandsWith}
 use Rattle.task_ast.specs.declared.core_form.Core.{Core}
 use Rattle.task_attempts.specs.Sound.{to_seal}
 use Rattle.word_isa.specs.declared.instr.Instr.{Instr}
@@ -18,8 +17,8 @@ use Rattle.word_isa.specs.declared.mark.MarkKind.{MarkKind}
 use Rattle.word_isa.specs.declared.mark.MarkKind.TheVariants as mark
 use Rattle.word_machine.specs.Events as machine
 use Rattle.word_machine.specs.Events.{event_next, stepped_next, told, unless_fault}
-use Rattle.word_machine.specs.Instructions.{act, fault}
-use Rattle.word_machine.specs.Runs.{is_running, journal_event, told_event}
+use Rattle.word_machine.specs.Instructions.{fault}
+use Rattle.word_machine.specs.Runs.{is_running, told_event}
 use Rattle.word_machine.specs.State.{Program, State}
 use Rattle.word_machine.specs.Step.{step, step_at}
 use Rattle.word_machine.specs.Straight.{Spot, after, is_plain, live}
@@ -316,9 +315,10 @@ module _ (c : Core) (place_of : ℕ → Place) where
     unfolding AllFollow
     behind_jump K n at t keeps there behind zero m few pc known = tt
     behind_jump K n at t keeps there behind (suc j) m few pc known =
-        let here : p.instr m.pc ≡ Some (Jmp t) = ap p.instr pc ∙ there in
-        (here_quiet m (Jmp t) here (mark_quiet (p.mark m.pc) 0),
-        subst (AllFollow c place_of p j) (sym (jmp_step m t here)) (behind j (record m { pc = t; clock = m.clock + 1 }) (omega (arith, few)) refl (keeps m known)))
+        let here : p.instr m.pc ≡ Some (Jmp t) = ap p.instr pc ∙ there in (
+          here_quiet m (Jmp t) here (mark_quiet (p.mark m.pc) 0),
+          subst (AllFollow c place_of p j) (sym (jmp_step m t here)) (behind j (record m { pc = t; clock = m.clock + 1 }) (omega (arith, few)) refl (keeps m known)),
+        )
 
     pub fewer : (K : Spot → Type 0) (n k at : ℕ) → k ≤ n → Behind K n at → Behind K k at
     fewer K n k at less behind j m few pc known = behind j m (omega (arith, less, few)) pc known

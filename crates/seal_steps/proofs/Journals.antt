@@ -1,8 +1,8 @@
 -- A journal is sealed in time where each boot tells the seals next, and its machine tells something soon.
 use Rattle.std.specs.Prelude.{◌≢◌, ◌⊎◌, ⊤, IfSome, map, Option, Some, None}
 use Rattle.std.specs.List.{AllByRecursion}
-use Rattle.std.proofs.Common.{◌≡◌, ◌∙◌, ℕ, zero, suc, ◌+◌, ◌<◌, ◌≤◌, inl, inr, Bool, true, false, List, [], ◌∷◌, ◌++◌, refl, sym, ap, subst, arith, if◌then◌else◌}
-use Rattle.devices.specs.Journal.{Boot, JournalEvent, Place, seals}
+use Rattle.std.proofs.Common.{◌≡◌, ◌∙◌, ℕ, zero, suc, ◌+◌, ◌≤◌, inl, inr, Bool, true, false, List, [], ◌∷◌, ◌++◌, refl, sym, ap, subst, arith, if◌then◌else◌}
+use Rattle.devices.specs.Journal.{Boot, JournalEvent, Place}
 use Rattle.devices.specs.declared.world.PowerRow.{PowerRow}
 use Rattle.task_ast.specs.declared.core_form.Core.{Core}
 use Rattle.task_attempts.specs.Journals.{events_of}
@@ -142,7 +142,7 @@ module _ (c : Core) (place_of : ℕ → Place) (p : Program) where
   before_others : (row : PowerRow) (rows : List PowerRow) (before last : ℕ) (s there : State) → last ≡ before + row.on + total_steps p rows there → AllFollow c place_of p row.on s
       → AreSealedNext c (unnumbered (numbered place_of p before row.on s)) → AllSealed c (boots place_of p rows (before + row.on) there) (ends_from (boots place_of p rows (before + row.on) there) last)
       → AllSealed c (record { begun_at = before; events = numbered place_of p before row.on s } ∷ boots place_of p rows (before + row.on) there)
-          (ends_from (record { begun_at = before; events = numbered place_of p before row.on s } ∷ boots place_of p rows (before + row.on) there) last)
+      (ends_from (record { begun_at = before; events = numbered place_of p before row.on s } ∷ boots place_of p rows (before + row.on) there) last)
   unfolding boots total_steps
   before_others row [] before last s there is follow next rest = (boot_sealed row.on before last s (omega (arith, is)) next follow, tt)
   before_others row (r ∷ rows) before last s there is follow next rest = (boot_sealed row.on before (before + row.on) s (omega arith) next follow, rest)

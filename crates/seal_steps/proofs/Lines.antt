@@ -1,6 +1,6 @@
 -- The code of expressions, statements without sites and valued sites is calm: it stays within itself.
-use Rattle.std.specs.Prelude.{◌&&◌, ⊤, nat_le, Option, Some, None}
-use Rattle.std.proofs.Common.{◌≡◌, ◌∙◌, ℕ, zero, suc, ◌+◌, ◌*◌, ◌<◌, ◌≤◌, inl, inr, Bool, true, false, List, [], ◌∷◌, ◌++◌, length, refl, sym, ap, subst, arith, length-append}
+use Rattle.std.specs.Prelude.{◌&&◌, nat_le, Option, Some, None}
+use Rattle.std.proofs.Common.{◌≡◌, ◌∙◌, ℕ, ◌+◌, ◌≤◌, inl, Bool, true, false, List, [], ◌∷◌, ◌++◌, length, refl, subst, arith, length-append}
 use Rattle.std.proofs.lemmas.Bool.Decides.{nat_tests}
 use Rattle.task_ast.specs.declared.core_form.CoreEnd.{CoreEnd}
 use Rattle.task_ast.specs.declared.core_form.CoreEnd.TheVariants as end
@@ -19,7 +19,7 @@ use Rattle.word_isa.specs.declared.instr.Instr.TheVariants.{Halt, Ldi, Lui, Mov,
 use Rattle.line_code.specs.declared.areas.Placed.{Placed}
 use Rattle.line_code.specs.declared.line.Line.{Line}
 use Rattle.line_code.specs.Areas.{area_at, pointer_at}
-use Rattle.line_code.specs.Expressions.{both_code, either_code, expr_code, number_code, one_code, op_code, place_code, pointer_code, room_code, sides_code, target_code, two_code}
+use Rattle.line_code.specs.Expressions.{both_code, either_code, expr_code, one_code, op_code, place_code, pointer_code, room_code, sides_code, target_code, two_code}
 use Rattle.line_code.specs.Lines.{bares}
 use Rattle.line_code.specs.Sizes.{expr_size, one_size, row_size, statement_size, target_size, two_size}
 use Rattle.line_code.specs.Statements.{assign_code, if_code, loop_code, point_code, row_code, statement_code, unless_code}
@@ -128,9 +128,10 @@ module _ (lo hi : ℕ) (out : ℕ → Type 0) where
 
   all_calm : (lines : List Line) (at : ℕ) → lo ≤ at → at + length lines ≤ hi → all_steady lines ≡ true → AllOk (IsCalm lo hi out) at lines
   all_calm [] at from till is = tt
-  all_calm (l ∷ ls) at from till is =
-      (steady_calm l.instr at (length ls) from (omega (arith, till)) (first_true (steady l.instr (length ls)) (all_steady ls) is),
-      all_calm ls (at + 1) (omega (arith, from)) (omega (arith, till)) (second_true (steady l.instr (length ls)) (all_steady ls) is))
+  all_calm (l ∷ ls) at from till is = (
+    steady_calm l.instr at (length ls) from (omega (arith, till)) (first_true (steady l.instr (length ls)) (all_steady ls) is),
+    all_calm ls (at + 1) (omega (arith, from)) (omega (arith, till)) (second_true (steady l.instr (length ls)) (all_steady ls) is),
+  )
 
   pub straight : {n : ℕ} {lines : List Line} (at : ℕ) → lo ≤ at → at + n ≤ hi → Straight n lines → Calm at n lines
   straight {n} {lines} at from till h = record { long = h.long; calm = all_calm lines at from (omega (arith, till, h.long)) h.steady }

@@ -1,8 +1,8 @@
 -- In the logs of the rules a seal comes right behind each event whose record must be sealed.
-use Rattle.std.specs.Prelude.{◌+◌, ◌*◌, ⊤, IfSome, map}
+use Rattle.std.specs.Prelude.{◌+◌, ◌*◌, IfSome, map}
 use Rattle.std.specs.List.{AllByRecursion}
-use Rattle.std.proofs.Common.{◌≡◌, ◌∙◌, ℕ, zero, suc, List, [], ◌∷◌, length, take, Option, Some, None, Result, Ok, Err, refl, sym, ap, subst}
-use Rattle.devices.specs.Journal.{JournalEvent, keep, begins, issues, seals, copies, commits, traps}
+use Rattle.std.proofs.Common.{◌≡◌, ◌∙◌, ℕ, zero, suc, List, [], ◌∷◌, take, Option, Some, None, Result, Ok, Err, refl, ap}
+use Rattle.devices.specs.Journal.{JournalEvent, seals}
 use Rattle.task_ast.specs.declared.core_form.Core.{Core}
 use Rattle.task_ast.specs.declared.core_form.CoreEnd.{CoreEnd}
 use Rattle.task_ast.specs.declared.core_form.CoreExit.{CoreExit, end_of-CoreExit, more_of-CoreExit}
@@ -12,13 +12,11 @@ use Rattle.task_ast.specs.declared.core_form.CoreStmt.{CoreStmt, Row_of-CoreStmt
 use Rattle.task_ast.specs.declared.core_form.CoreStmt.TheVariants as stmt
 use Rattle.task_ast.specs.declared.core_form.CoreTarget.{CoreTarget}
 use Rattle.task_ast.specs.declared.core_form.CoreTask.{CoreTask}
-use Rattle.io_annot.specs.Choice.{choice}
 use Rattle.io_annot.specs.declared.choice.Choice.{Choice}
 use Rattle.io_annot.specs.declared.choice.Choice.TheVariants as choices
 use Rattle.io_annot.specs.declared.choice.Mode.{Mode}
 use Rattle.io_annot.specs.declared.choice.Mode.TheVariants as mode
 use Rattle.io_depend.specs.Depend.{dependents}
-use Rattle.region_split.specs.Regions.{region_of}
 use Rattle.region_split.specs.declared.class.DmaClass.{DmaClass}
 use Rattle.region_split.specs.declared.class.DmaClass.TheVariants as class
 use Rattle.walk_run.specs.Plain.{Ran, chosen, done, plain_done, trapped}
@@ -27,14 +25,14 @@ use Rattle.walk_run.specs.Value.{end_place, target_place, value_of, with_room}
 use Rattle.walk_run.specs.declared.place.Place.{Place}
 use Rattle.walk_run.specs.declared.trap.Trap.{Trap}
 use Rattle.task_attempts.specs.Attempts.{attempt_log, body_log, commit, exit_log, row_log, statement_log}
-use Rattle.task_attempts.specs.Blocks.{block_end, block_inside, block_log, block_sealed, stamp_in}
-use Rattle.task_attempts.specs.Boots.{attempt_if_there, attempts_log, boot_log, boots, boots_from, cut_boot, events_in, expect, left_by, task_of}
-use Rattle.task_attempts.specs.Calls.{annotation, by_choice, by_record, call_inside, call_log, issue, issue_anew, issued_with, kept_in, number_of}
-use Rattle.task_attempts.specs.Changes.{spent, with_mode}
-use Rattle.task_attempts.specs.Copies.{again, brought, class_at, copy_again, copy_anew, copy_by_class, copy_by_record, copy_log, copy_valued, memory_or_ram, moved, shown}
+use Rattle.task_attempts.specs.Blocks.{block_log, block_sealed}
+use Rattle.task_attempts.specs.Boots.{attempt_if_there, attempts_log, boot_log, boots_from, events_in, expect, left_by, task_of}
+use Rattle.task_attempts.specs.Calls.{by_choice, call_log, issue_anew, issued_with, number_of}
+use Rattle.task_attempts.specs.Changes.{spent}
+use Rattle.task_attempts.specs.Copies.{class_at, copy_again, copy_by_class, copy_by_record, copy_log, copy_valued, moved, shown}
 use Rattle.task_attempts.specs.Sound.{is_sealed, to_seal, transfer_sealed, with_site}
-use Rattle.task_attempts.specs.State.{Followed, Here, Log, Logged, Record, Rest, Rules, Setting, Standing, Valued, of_block, of_copy, of_reading, start}
-use Rattle.task_attempts.specs.Told.{drop_all, drop_one, told, trap, unless_trap}
+use Rattle.task_attempts.specs.State.{Here, Log, Record, Rest, Rules, Setting, Standing, Valued, of_block, of_copy, of_reading, start}
+use Rattle.task_attempts.specs.Told.{drop_all, trap, unless_trap}
 use Rattle.task_attempts.specs.Values.{branch, copy_end, from_ran, plain_log, put_into, reading_place, tested, value, values}
 use Rattle.seal_steps.specs.Soon.{AreSealedNext, SealsNext}
 
@@ -109,8 +107,10 @@ module _ (setting : Setting) where
 
   call_goes : (k : ℕ) (onto : Option CoreTarget) (q : ℕ) (args : List CoreExpr) (go : Rest) → Goes go → Goes (call_log setting k onto q args go)
   call_goes k onto q args go goes here =
-      place_goes onto _ (λ at. values_goes args _ (λ words there. (tt,
-      choice_goes k (number_of setting q) (issued_with (there.standing.account.records k)) words _ (λ word after. go (put_into at word after)) _ (λ word after. goes _) _))) _
+      place_goes onto _ (λ at. values_goes args _ (λ words there. (
+        tt,
+        choice_goes k (number_of setting q) (issued_with (there.standing.account.records k)) words _ (λ word after. go (put_into at word after)) _ (λ word after. goes _) _,
+      ))) _
 
   -- ---- blocks
 

@@ -1,5 +1,5 @@
 -- The loops that keep and put a copy's words: where they lead, and how soon a seal comes behind one of so many words.
-use Rattle.std.specs.Prelude.{◌⊎◌, ◌≢◌, ⊤, ◌-◌, ◌%◌, ◌^◌, ◌*◌, ◌==◌, Option, Some, None}
+use Rattle.std.specs.Prelude.{◌⊎◌, ◌≢◌, ◌%◌, ◌^◌, ◌*◌, ◌==◌, Option, Some, None}
 use Rattle.std.proofs.Common.{◌≡◌, ◌∙◌, ℕ, zero, suc, ◌+◌, ◌<◌, ◌≤◌, inl, inr, Bool, true, false, List, [], ◌∷◌, ◌++◌, length, refl, sym, ap, subst, arith, if◌then◌else◌}
 use Rattle.std.proofs.lemmas.Bool.Decides.{nat_tests}
 use Rattle.devices.specs.Journal.{Place}
@@ -13,7 +13,7 @@ use Rattle.word_isa.specs.declared.mark.MarkKind.TheVariants as mark
 use Rattle.word_machine.specs.Instructions.{fault}
 use Rattle.word_machine.specs.RunLaws.{line_ends, step_of}
 use Rattle.word_machine.specs.Runs.{journal_event}
-use Rattle.word_machine.specs.State.{Program, State}
+use Rattle.word_machine.specs.State.{Program}
 use Rattle.word_machine.specs.Step.{step}
 use Rattle.word_machine.specs.Straight.{Spot, after, is_plain, line, live}
 use Rattle.word_code.specs.ActCode.{keep_words_code, loop_code, put_words_code}

@@ -1,10 +1,9 @@
 -- Where the code of statements leads: to what comes behind them.
 use Rattle.std.specs.Prelude.{⊤, map, Option, Some, None}
-use Rattle.std.proofs.Common.{◌≡◌, ◌∙◌, ℕ, zero, suc, ◌+◌, ◌*◌, ◌<◌, ◌≤◌, Bool, true, false, List, [], ◌∷◌, ◌++◌, length, refl, sym, ap, subst, arith}
+use Rattle.std.proofs.Common.{◌≡◌, ◌∙◌, ℕ, ◌+◌, ◌*◌, ◌≤◌, Bool, true, false, List, [], ◌∷◌, ◌++◌, refl, sym, ap, subst, arith}
 use Rattle.devices.specs.Journal.{Place}
 use Rattle.line_code.specs.declared.line.Line.{Line}
 use Rattle.line_code.specs.Lines.{bares, marked}
-use Rattle.line_code.specs.Expressions.{expr_code}
 use Rattle.line_code.specs.Sizes.{expr_size}
 use Rattle.line_laws.specs.Standing.{Lie, lie_behind, lie_front}
 use Rattle.task_ast.specs.declared.core_form.Core.{Core}
@@ -13,26 +12,24 @@ use Rattle.task_ast.specs.declared.core_form.CoreExpr.{CoreExpr}
 use Rattle.task_ast.specs.declared.core_form.CoreStmt.{CoreStmt, Row_of-CoreStmt, end_of-CoreStmt, more_of-CoreStmt}
 use Rattle.task_ast.specs.declared.core_form.CoreStmt.TheVariants as stmt
 use Rattle.task_ast.specs.CoreSites.{row_numbers}
-use Rattle.word_isa.specs.declared.instr.Instr.TheVariants.{Io, Jmp, St}
+use Rattle.word_isa.specs.declared.instr.Instr.TheVariants.{Io, St}
 use Rattle.word_isa.specs.declared.mark.MarkKind.TheVariants as mark
 use Rattle.word_machine.specs.State.{Program}
-use Rattle.word_machine.specs.Straight.{Spot}
 use Rattle.run_plan.specs.declared.act.Act.{Act, Row_of-Act, end_of-Act, more_of-Act, items-the_row-Act}
 use Rattle.run_plan.specs.declared.act.Act.TheVariants as act
 use Rattle.run_plan.specs.PlanOf.{Around, block_acts, block_end_acts, call_acts, copy_acts, issue_acts, row_acts, statement_acts, unless_plain}
 use Rattle.run_plan.specs.Rows.{act_row_of, act_row_shows}
 use Rattle.word_code.specs.ActCode.{acts_entry, entry}
 use Rattle.word_code.specs.ActLaws.{entry_of_acts}
-use Rattle.word_code.specs.Acts.{count_of, issue_code, jump, load_code, peripheral_of, seal_code}
+use Rattle.word_code.specs.Acts.{count_of, jump, load_code, peripheral_of}
 use Rattle.word_code.specs.Finding.{statement_at}
 use Rattle.word_code.specs.Frames.{Frame, sign, site_at}
 use Rattle.word_code.specs.Repeats.{each}
 use Rattle.word_code.specs.Sizes.{act_size, acts_size, row_size}
 use Rattle.word_code.specs.Tables.{ann_of, keeps_size}
-use Rattle.word_code.specs.Values.{copy_code, end_code, end_size, length_code, value_code}
+use Rattle.word_code.specs.Values.{copy_code, end_size, length_code, value_code}
 use Rattle.code_places.specs.Placed.{ActLies, ActsLie, RowLies}
-use Rattle.seal_steps.proofs.Acts.{Fixed, begin_flows, calm_jump, calm_range, call_valued_flows, choose_flows, drop_flows, empty, enter_flows, jump_fixed, leave_flows, loads_straight, look_flows, none_out, nowhere, plain_flows, seal_flows, straight_jump, take_flows, test_flows, write_flows}
-use Rattle.seal_steps.proofs.Flow.{HasFixed}
+use Rattle.seal_steps.proofs.Acts.{Fixed, calm_jump, calm_range, call_valued_flows, choose_flows, drop_flows, empty, enter_flows, leave_flows, loads_straight, look_flows, none_out, nowhere, plain_flows, seal_flows, straight_jump, take_flows, test_flows, write_flows}
 use Rattle.seal_steps.proofs.Lines.{Calm, Straight, calm_as, end_calm, expr_calm, join, straight}
 use Rattle.seal_steps.proofs.Telling.{Soon, issue_flows, seal_soon, soon_jump, soon_plain, tells_more}
 

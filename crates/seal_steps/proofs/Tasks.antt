@@ -1,6 +1,5 @@
 -- Where a task's code leads, and a boot's: from each stub to the next one, and from address 0 on.
-use Rattle.std.specs.Prelude.{⊤, ◌⊎◌, ◌-◌, ◌/◌, ◌%◌, ◌*◌, ◌==◌, cond, nat_lt, map, slice_get, slice_index_or, Option, Some, None}
-use Rattle.std.specs.List.{AllByRecursion, range_with_len}
+use Rattle.std.specs.Prelude.{⊤, ◌-◌, ◌/◌, ◌%◌, ◌*◌, cond, nat_lt, map, Some}
 use Rattle.std.proofs.Common.{◌≡◌, ◌∙◌, ℕ, zero, suc, ◌+◌, ◌<◌, ◌≤◌, inl, inr, Bool, true, false, List, [], ◌∷◌, ◌++◌, length, refl, sym, ap, subst, arith, length-append}
 use Rattle.std.proofs.lemmas.Bool.Decides.{nat_tests}
 use Rattle.devices.specs.Journal.{Place}
@@ -8,37 +7,26 @@ use Rattle.line_code.specs.declared.line.Line.{Line}
 use Rattle.line_code.specs.Lines.{bares, marked}
 use Rattle.line_laws.specs.Standing.{Lie, lie_behind, lie_front}
 use Rattle.task_ast.specs.declared.core_form.Core.{Core}
-use Rattle.task_ast.specs.declared.core_form.CoreExit.{CoreExit, end_of-CoreExit, more_of-CoreExit}
-use Rattle.task_ast.specs.declared.core_form.CoreExit.TheVariants as exit
-use Rattle.task_ast.specs.declared.core_form.CoreStmt.{CoreStmt}
-use Rattle.task_ast.specs.declared.core_form.CoreTask.{CoreTask}
-use Rattle.task_ast.specs.WellFormed.{IsCoreExit, Scope}
 use Rattle.word_isa.specs.declared.instr.Instr.{Instr}
 use Rattle.word_isa.specs.declared.instr.Instr.TheVariants.{Add, Adi, Eq, Halt, Jmp, Jz, Ld, Ldi, Ltu, Lui, Mov, Mul, Rem, Shl, Shr, St}
 use Rattle.word_isa.specs.declared.mark.MarkKind.TheVariants as mark
-use Rattle.word_isa.specs.declared.parts.Scheme.{Scheme}
-use Rattle.word_isa.specs.declared.parts.Scheme.TheVariants.{Undo, Bank}
 use Rattle.word_machine.specs.Events as machine
 use Rattle.word_machine.specs.RunLaws.{step_halt}
 use Rattle.word_machine.specs.State.{Program}
 use Rattle.word_machine.specs.Step.{step}
 use Rattle.word_machine.specs.Straight.{Spot, Stand, after, is_plain, live}
-use Rattle.run_plan.specs.declared.act.Act.{Act}
 use Rattle.run_plan.specs.declared.act.Act.TheVariants as act
-use Rattle.run_plan.specs.PlanOf.{Around, body_acts, exit_act, save_acts, statement_acts, task_acts, tasks_acts}
 use Rattle.word_code.specs.ActCode.{acts_entry, ended, restored}
-use Rattle.word_code.specs.Acts.{count_of, jump}
+use Rattle.word_code.specs.Acts.{jump}
 use Rattle.word_code.specs.Beginnings.{restore_code}
-use Rattle.word_code.specs.Finding.{statement_at}
-use Rattle.word_code.specs.Frames.{Frame, halt_at, sign, stride, stub_at}
+use Rattle.word_code.specs.Frames.{Frame, sign, stride, stub_at}
 use Rattle.word_code.specs.Heads.{boot_at, fix_code, head_code, leaf_code, tree_code}
-use Rattle.word_code.specs.Sizes.{act_size, acts_size, region_size, restored_size}
-use Rattle.code_places.specs.Placed.{ActLies, ActsLie}
+use Rattle.word_code.specs.Sizes.{acts_size, region_size, restored_size}
+use Rattle.code_places.specs.Placed.{ActsLie}
 use Rattle.seal_steps.specs.Soon.{AllFollow}
-use Rattle.seal_steps.proofs.Acts.{Fixed, begin_flows, calm_range, jump_fixed, lock_flows, none_out, nowhere, restore_flows, save_flows, straight_jump}
-use Rattle.seal_steps.proofs.Flow.{Behind, Goes, HasFixed, IsQuiet, behind_jump, ended_fine, here_quiet, is_on, led_fine, mark_quiet, plain_leads}
+use Rattle.seal_steps.proofs.Acts.{Fixed, calm_range, jump_fixed, none_out, nowhere, restore_flows, straight_jump}
+use Rattle.seal_steps.proofs.Flow.{Behind, Goes, HasFixed, IsQuiet, ended_fine, here_quiet, is_on, led_fine, mark_quiet, plain_leads}
 use Rattle.seal_steps.proofs.Lines.{Calm, Straight, straight}
-use Rattle.seal_steps.proofs.Statements.{CopiesFlow, ListFlows, ActFlows, and_then, none_flow, one_more, statement_flow, test_list}
 
 -- ---- the fixed registers are made again
 
@@ -99,8 +87,10 @@ module _ (c : Core) (place_of : ℕ → Place) (p : Program) where
   tree_long : (tasks deep first count at n : ℕ) → 0 < count → count ≤ deep → n + 4 ≡ 5 * count → length (tree_code tasks deep first count at) ≡ n
   tree_long tasks zero first count at n some enough size = absurd (omega (arith, some, enough))
   tree_long tasks (suc deep) first count at n some enough size = by (nat_lt 1 count) refl
-      (λ more. (tree_long tasks deep first (count / 2) (at + 4) (5 * (count / 2) - 4) (omega (arith, more)) (omega (arith, enough, more)) (omega (arith, more)),
-      tree_long tasks deep (first + count / 2) (count - count / 2) (at + 5 * (count / 2)) (5 * (count - count / 2) - 4) (omega (arith, more)) (omega (arith, enough, more)) (omega (arith, more))))
+      (λ more. (
+        tree_long tasks deep first (count / 2) (at + 4) (5 * (count / 2) - 4) (omega (arith, more)) (omega (arith, enough, more)) (omega (arith, more)),
+        tree_long tasks deep (first + count / 2) (count - count / 2) (at + 5 * (count / 2)) (5 * (count - count / 2) - 4) (omega (arith, more)) (omega (arith, enough, more)) (omega (arith, more)),
+      ))
     where
       one : List Line
       one = tree_code tasks deep first (count / 2) (at + 4)

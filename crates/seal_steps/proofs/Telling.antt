@@ -1,17 +1,16 @@
 -- Within how many steps a machine tells something, by the lines that come.
-use Rattle.std.specs.Prelude.{◌⊎◌, ◌≢◌, ◌%◌, ⊤, Option, Some, None}
+use Rattle.std.specs.Prelude.{◌⊎◌, ◌≢◌, ◌%◌, Option, Some, None}
 use Rattle.std.specs.List.{AllByRecursion}
-use Rattle.std.proofs.Common.{◌≡◌, ◌∙◌, ℕ, zero, suc, ◌+◌, ◌<◌, ◌≤◌, inl, inr, Bool, true, false, List, [], ◌∷◌, ◌++◌, length, refl, sym, ap, subst, arith, if◌then◌else◌}
-use Rattle.devices.specs.Journal.{JournalEvent, Place, placed}
+use Rattle.std.proofs.Common.{◌≡◌, ◌∙◌, ℕ, zero, suc, ◌+◌, inl, inr, Bool, true, false, [], ◌++◌, refl, sym, ap, subst, arith, if◌then◌else◌}
+use Rattle.devices.specs.Journal.{Place, placed}
 use Rattle.devices.specs.declared.event.Event.{Event}
 use Rattle.devices.specs.declared.event.Event.TheVariants as the
-use Rattle.line_code.specs.Lines.{bares, marked}
-use Rattle.line_laws.specs.Standing.{Lie, Marked, StandsWith, lie_behind, lie_front}
+use Rattle.line_laws.specs.Standing.{Lie}
 use Rattle.task_ast.specs.declared.core_form.Core.{Core}
 use Rattle.task_ast.specs.declared.core_form.Site.{Site}
 use Rattle.task_ast.specs.declared.core_form.Site.TheVariants as site
 use Rattle.word_isa.specs.declared.instr.Instr.{Instr}
-use Rattle.word_isa.specs.declared.instr.Instr.TheVariants.{Io, Jmp, Ld, St}
+use Rattle.word_isa.specs.declared.instr.Instr.TheVariants.{Io, Jmp, St}
 use Rattle.word_isa.specs.declared.mark.MarkKind.TheVariants as mark
 use Rattle.word_machine.specs.Events as machine
 use Rattle.word_machine.specs.Events.{event_next, stepped_next, told, unless_fault}
@@ -23,11 +22,10 @@ use Rattle.word_machine.specs.Runs.{is_running, journal_event, told_event}
 use Rattle.word_machine.specs.State.{Program, State}
 use Rattle.word_machine.specs.Step.{step}
 use Rattle.word_machine.specs.Straight.{Spot, after, is_plain, live}
-use Rattle.word_machine.specs.declared.cell.Sign.{Sign}
 use Rattle.word_machine.specs.declared.ending.Ending.{Ending}
 use Rattle.word_machine.specs.declared.ending.Ending.TheVariants.{Running, Halted, Trapped}
-use Rattle.word_code.specs.Acts.{jump, seal_code}
-use Rattle.word_code.specs.Frames.{Frame, flag_at, sign}
+use Rattle.word_code.specs.Acts.{seal_code}
+use Rattle.word_code.specs.Frames.{Frame, flag_at}
 use Rattle.seal_steps.specs.Soon.{AllFollow, FollowsSoon, StepFollows, TellsSoon}
 use Rattle.seal_steps.proofs.Flow.{Behind, HasFixed, event_here, still_fixed}
 
@@ -162,6 +160,7 @@ module _ (c : Core) (place_of : ℕ → Place) (p : Program) where
   issue_flows at w n there soon behind zero m few pc fixed = tt
   issue_flows at w n there soon behind (suc j) m few pc fixed =
       let here : p.instr m.pc ≡ Some (Io 1 4 w) = ap p.instr pc ∙ there in
-      let next : m.pc + 1 ≡ at + 1 = ap (λ x. x + 1) pc in
-      (io_follows m 1 4 w here (λ x is. soon x (is ∙ next)),
-      subst (AllFollow c place_of p j) (sym (step_io p 1 4 w m here)) (behind j (after_io w m) (omega (arith, few)) next (still_fixed 1 (next_reading p.values w (live m)) m.regs refl fixed)))
+      let next : m.pc + 1 ≡ at + 1 = ap (λ x. x + 1) pc in (
+        io_follows m 1 4 w here (λ x is. soon x (is ∙ next)),
+        subst (AllFollow c place_of p j) (sym (step_io p 1 4 w m here)) (behind j (after_io w m) (omega (arith, few)) next (still_fixed 1 (next_reading p.values w (live m)) m.regs refl fixed)),
+      )

@@ -1,10 +1,9 @@
 -- The places that an image tells are of the memory in which their addresses lie.
-use Rattle.std.specs.Prelude.{◌≢◌, ◌⊎◌, ◌-◌, ◌==◌, ◌&&◌, cond, nat_le, nat_lt, slice_get, Option, Some, None}
-use Rattle.std.proofs.Common.{◌≡◌, ◌∙◌, ℕ, zero, suc, ◌+◌, ◌<◌, ◌≤◌, inl, inr, Bool, true, false, List, [], ◌∷◌, length, refl, sym, ap, subst, arith, if◌then◌else◌}
+use Rattle.std.specs.Prelude.{◌≢◌, ◌⊎◌, ◌-◌, ◌==◌, ◌&&◌, cond, nat_le, nat_lt, slice_get, Some}
+use Rattle.std.proofs.Common.{◌≡◌, ◌∙◌, ℕ, zero, suc, ◌+◌, ◌<◌, ◌≤◌, inl, inr, Bool, true, false, List, [], ◌∷◌, refl, sym, ap, subst, arith, if◌then◌else◌}
 use Rattle.std.proofs.lemmas.Bool.Decides.{nat_tests}
-use Rattle.devices.specs.Journal.{Place, address, cell, keep}
+use Rattle.devices.specs.Journal.{address, cell, keep}
 use Rattle.region_split.specs.Class.{memory_of}
-use Rattle.region_split.specs.declared.class.Memory.{Memory}
 use Rattle.region_split.specs.declared.class.Memory.TheVariants as memory
 use Rattle.task_ast.specs.WellFormed.{IsWellFormed}
 use Rattle.task_ast.specs.declared.core_form.Array.{Array}
@@ -18,7 +17,7 @@ use Rattle.word_isa.specs.declared.parts.Scheme.{Scheme}
 use Rattle.word_isa.specs.declared.parts.Scheme.TheVariants.{Undo, Bank}
 use Rattle.word_isa.specs.declared.parts.Symbol.{Symbol}
 use Rattle.word_isa.specs.declared.span.Span.{Span}
-use Rattle.word_machine.specs.Places.{kept_or_bare, lies_in, place_from, place_of}
+use Rattle.word_machine.specs.Places.{lies_in, place_from, place_of}
 use Rattle.line_code.specs.declared.areas.Placed.{Placed}
 use Rattle.line_code.specs.Areas.{area_at, areas_from, free_at_first}
 use Rattle.layout_laws.proofs.Apart.{FitAreas, base_is, base_of, before, fit_areas, kind_of, offset_is, room_is, room_of, start, total, within}
@@ -198,9 +197,9 @@ image_tells c scheme i well image =
       homes = λ x a n is high fram. let h = told_in c well (stride scheme) near kept a n x (moved x ∙ is) in no_home c well (stride scheme) near h.kind x h.here high (sym h.memory ∙ fram);
       above = λ x a n is high. let h = told_in c well (stride scheme) near kept a n x (moved x ∙ is) in past_kept c well (stride scheme) near h.kind x h.here high;
       kept = λ x is.
-      let here : lies_in kept x ≡ true = kept_is [] i.stride kept x 0 i.symbols is in
-      let range = in_range i.keep i.keep_words x here in
-      let from : i.keep ≡ 7042 = image.keep in
-      let many : i.keep_words ≡ most_kept c.tasks = image.keep_words in
-      omega (arith, range.1, from, many, kept_few c c.tasks well.tasks);
+          let here : lies_in kept x ≡ true = kept_is [] i.stride kept x 0 i.symbols is in
+          let range = in_range i.keep i.keep_words x here in
+          let from : i.keep ≡ 7042 = image.keep in
+          let many : i.keep_words ≡ most_kept c.tasks = image.keep_words in
+          omega (arith, range.1, from, many, kept_few c c.tasks well.tasks);
     }

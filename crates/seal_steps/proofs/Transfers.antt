@@ -1,8 +1,8 @@
 -- A transfer's words, one a step, and its event, which comes with the last of them.
-use Rattle.std.specs.Prelude.{◌⊎◌, ⊤, ◌-◌, ◌==◌, Option, Some, None}
-use Rattle.std.proofs.Common.{◌≡◌, ◌∙◌, ℕ, zero, suc, ◌+◌, ◌<◌, ◌≤◌, Bool, true, false, List, [], ◌∷◌, refl, sym, ap, subst, arith, if◌then◌else◌}
+use Rattle.std.specs.Prelude.{◌-◌, ◌==◌, Some, None}
+use Rattle.std.proofs.Common.{◌≡◌, ◌∙◌, ℕ, zero, suc, ◌+◌, ◌≤◌, Bool, true, false, refl, sym, ap, subst, arith, if◌then◌else◌}
 use Rattle.std.proofs.lemmas.Bool.Decides.{nat_tests}
-use Rattle.devices.specs.Journal.{JournalEvent, Place, copies, placed}
+use Rattle.devices.specs.Journal.{Place, copies, placed}
 use Rattle.devices.specs.declared.event.Event.{Event}
 use Rattle.devices.specs.declared.event.Event.TheVariants as the
 use Rattle.fram_ram.specs.Engine.{begun}
@@ -121,9 +121,10 @@ module _ (c : Core) (place_of : ℕ → Place) (p : Program) where
             let done : Moving to from words words s.regs (put s.store (to + k) (s.store (from + k))) = subst (λ x. Moving to from words x s.regs (put s.store (to + k) (s.store (from + k)))) all kept in
             let here : s.pc - 1 ≡ at = omega (arith, pc) in
             let shows : event_next p (moving s to from k 1) ≡ Some (the.Copied (machine.site_of (p.mark at)) from to words) = last_event p s to from k a there ∙ (λ i. Some (the.Copied (machine.site_of (p.mark (here i))) from to (all i))) in
-            let steps : step p (moving s to from k 1) ≡ live (after_word s to from k) = last_step p s to from k a there in
-            (told_step (moving s to from k 1) (after_word s to from k) to from words shows steps pc done,
-            subst (AllFollow c place_of p j) (sym steps) (behind j (after_word s to from k) (omega (arith, few)) pc (h.ends to from words s.regs (put s.store (to + k) (s.store (from + k))) done)))
+            let steps : step p (moving s to from k 1) ≡ live (after_word s to from k) = last_step p s to from k a there in (
+              told_step (moving s to from k 1) (after_word s to from k) to from words shows steps pc done,
+              subst (AllFollow c place_of p j) (sym steps) (behind j (after_word s to from k) (omega (arith, few)) pc (h.ends to from words s.regs (put s.store (to + k) (s.store (from + k))) done)),
+            )
         by true a true there (suc l) long on =
             let kept : Moving to from words (k + 1) s.regs (put s.store (to + k) (s.store (from + k))) = h.word to from words k s.regs s.store moved there in
             (none_quiet (moving s to from k (suc (suc l))) (next_event p s to from k l a there), subst (AllFollow c place_of p j) (sym (next_step p s to from k l a there)) (on l (omega (arith, long)) kept))
@@ -154,9 +155,10 @@ module _ (c : Core) (place_of : ℕ → Place) (p : Program) where
             let none : m.regs 3 ≡ 0 = grind (arith, nat_tests) in
             let done : Moving (m.regs 1) (m.regs 2) 0 0 m.regs m.store = subst (λ x. Moving (m.regs 1) (m.regs 2) x 0 m.regs m.store) none first in
             let steps : step p (live m) ≡ live next = step_dma p 1 2 3 m here ∙ ap (λ t. record started { engine = if t then record { to = 0; from = 0; moved = 0; left = 0 } else record { to = m.regs 1; from = m.regs 2; moved = 0; left = m.regs 3 } }) is in
-            let told : event_next p (live m) ≡ Some (the.Copied (machine.site_of (p.mark at)) (m.regs 2) (m.regs 1) 0) = shows true is ∙ ap (λ x. Some (the.Copied (machine.site_of (p.mark x)) (m.regs 2) (m.regs 1) 0)) pc in
-            (told_step (live m) next (m.regs 1) (m.regs 2) 0 told steps (ap (λ x. x + 1) pc) done,
-            subst (AllFollow c place_of p j) (sym steps) (behind j next (omega (arith, few)) (ap (λ x. x + 1) pc) (h.ends (m.regs 1) (m.regs 2) 0 m.regs m.store done)))
+            let told : event_next p (live m) ≡ Some (the.Copied (machine.site_of (p.mark at)) (m.regs 2) (m.regs 1) 0) = shows true is ∙ ap (λ x. Some (the.Copied (machine.site_of (p.mark x)) (m.regs 2) (m.regs 1) 0)) pc in (
+              told_step (live m) next (m.regs 1) (m.regs 2) 0 told steps (ap (λ x. x + 1) pc) done,
+              subst (AllFollow c place_of p j) (sym steps) (behind j next (omega (arith, few)) (ap (λ x. x + 1) pc) (h.ends (m.regs 1) (m.regs 2) 0 m.regs m.store done)),
+            )
         by false is =
             let some = next_of (m.regs 3) is in
             let steps : step p (live m) ≡ moving next (m.regs 1) (m.regs 2) 0 (suc some.before) =

@@ -1,14 +1,11 @@
 -- A machine in whose program the code of a plan lies tells a seal in time behind whatever must be sealed, boot by boot.
-use Rattle.std.specs.Prelude.{⊤, cond, map, slice_get, slice_index_or, Option, Some, None, ◌==◌}
+use Rattle.std.specs.Prelude.{map, slice_get, slice_index_or, Some}
 use Rattle.std.specs.List.{AllByRecursion, range_with_len}
-use Rattle.std.proofs.Common.{◌≡◌, ◌∙◌, ℕ, zero, suc, ◌+◌, ◌*◌, ◌<◌, ◌≤◌, Bool, true, false, List, [], ◌∷◌, ◌++◌, length, refl, sym, ap, subst, arith}
-use Rattle.std.proofs.lemmas.Bool.Decides.{nat_tests}
-use Rattle.devices.specs.Journal.{Boot, JournalEvent, Place}
+use Rattle.std.proofs.Common.{◌≡◌, ◌∙◌, ℕ, zero, suc, ◌+◌, ◌<◌, ◌≤◌, true, false, List, [], ◌∷◌, ◌++◌, length, refl, sym, ap, subst, arith}
+use Rattle.devices.specs.Journal.{Boot, Place}
 use Rattle.devices.specs.declared.world.PowerRow.{PowerRow}
-use Rattle.fram_ram.specs.Engine.{idle}
 use Rattle.fram_ram.specs.Memories.{failed}
 use Rattle.line_code.specs.Sizes.{expr_size}
-use Rattle.line_laws.specs.Standing.{Lie}
 use Rattle.task_ast.specs.declared.core_form.Core.{Core}
 use Rattle.task_ast.specs.declared.core_form.CoreExit.{CoreExit, end_of-CoreExit, more_of-CoreExit}
 use Rattle.task_ast.specs.declared.core_form.CoreExit.TheVariants as exit
@@ -31,7 +28,7 @@ use Rattle.run_plan.specs.declared.act.Act.{Act}
 use Rattle.run_plan.specs.declared.act.Act.TheVariants as act
 use Rattle.run_plan.specs.PlanOf.{Around, around, body_acts, exit_act, most_regions, plan_of, restore_acts, save_acts, statement_acts, task_acts, tasks_acts}
 use Rattle.run_plan.specs.Rows.{act_row_of}
-use Rattle.word_code.specs.ActCode.{acts_entry, entry}
+use Rattle.word_code.specs.ActCode.{entry}
 use Rattle.word_code.specs.ActLaws.{entry_of_acts}
 use Rattle.word_code.specs.Acts.{count_of}
 use Rattle.word_code.specs.CodeOf.{frame_at}
@@ -39,17 +36,17 @@ use Rattle.word_code.specs.Finding.{found, statement_at}
 use Rattle.word_code.specs.Fitting.{IsShortSite}
 use Rattle.word_code.specs.Frames.{Frame, halt_at, stub_at}
 use Rattle.word_code.specs.Heads.{boot_at}
-use Rattle.word_code.specs.Sizes.{act_size, acts_size, row_size}
+use Rattle.word_code.specs.Sizes.{acts_size, row_size}
 use Rattle.word_code.proofs.FitLaws.{plan_fits}
 use Rattle.word_code.proofs.ShortLaws.{body_found_short}
-use Rattle.code_places.specs.Placed.{ActLies, ActsLie, IsPlaced, RowLies, TaskLies}
+use Rattle.code_places.specs.Placed.{ActLies, ActsLie, IsPlaced, TaskLies}
 use Rattle.code_places.proofs.ActGoods.{call_few}
 use Rattle.seal_steps.specs.Soon.{AllFollow, AreSealedNext}
 use Rattle.seal_steps.proofs.Acts.{Fixed, begin_flows, jump_fixed, lock_flows, save_flows, test_flows}
 use Rattle.seal_steps.proofs.Flow.{Behind, HasFixed, behind_jump, is_on}
 use Rattle.seal_steps.proofs.Journals.{BootsFollow, boots_sealed}
 use Rattle.seal_steps.proofs.LogSeals.{expected_sealed}
-use Rattle.seal_steps.proofs.Statements.{ActFlows, CopiesFlow, ListFlows, Split, and_then, lists_lie, none_flow, one_more, split, statement_flow}
+use Rattle.seal_steps.proofs.Statements.{CopiesFlow, ListFlows, Split, and_then, lists_lie, none_flow, one_more, split, statement_flow}
 use Rattle.seal_steps.proofs.Tasks.{Any, commit_flows, halt_flows, head_flows, restores_flow}
 
 -- ---- lists
