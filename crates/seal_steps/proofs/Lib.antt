@@ -1,0 +1,17 @@
+pub mod LogSeals
+pub mod Journals
+pub mod Flow
+pub mod Lines
+pub mod Acts
+pub mod Telling
+pub mod Statements
+pub mod Tasks
+pub mod Whole
+pub mod Claims
+pub mod Transfers
+pub mod Loops
+pub mod Classes
+pub mod CopyActs
+pub mod CopyFlows
+pub mod Every
+pub mod Told
