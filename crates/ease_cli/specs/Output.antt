@@ -16,7 +16,7 @@ use Rattle.power_trace.specs.Run.{journal_on, report_on}
 use Rattle.run_plan.specs.PlanOf.{plan_of}
 use Rattle.site_account.specs.Account.{account_of}
 use Rattle.site_account.specs.Places.{program_places}
-use Rattle.sound_images.specs.Sound.{HasNoSites, IsSound}
+use Rattle.sound_images.specs.Sound.{IsSound}
 use Rattle.task_ast.specs.declared.core_form.Core.{Core}
 use Rattle.task_ast.specs.declared.tree.Program.{Program}
 use Rattle.task_check.specs.CheckedForm.{core_of}
@@ -63,13 +63,12 @@ pub record IsSession (i : Image) (w : World) (s : Script) (status : Status) (tex
   pub ended : status ≡ session_status (session_end i w s.lines)
   pub written : text ≡ session_text i w s.lines
 
--- `build`: the bytes are those of an image with the code, the marks and the words of the plan of the checked form, which is sound
--- where the program has no sites
+-- `build`: the bytes are those of an image with the code, the marks and the words of the plan of the checked form, and it is sound
 pub record IsBuilt (core : Core) (scheme : Scheme) (status : Status) (text : List ℕ) : Type 0 where
   pub ended : status ≡ Ok
   pub image : Image
   pub lowered : IsImageOf (plan_of core scheme) core image
-  pub sound : HasNoSites core → IsSound core scheme image
+  pub sound : IsSound core scheme image
   pub written : text ≡ image_bytes image
 
 -- `sites`: the text is the account of the checked form, with the places that its sites have in the tree

@@ -16,7 +16,7 @@ use crate::status::Status;
 use ease_base::{Cabinet, NoMemory, Sink, send_all};
 use image_file::write_image;
 use run_plan::plan;
-use sound_images::every_image_of_a_program_without_sites_is_sound;
+use sound_images::every_image_is_sound;
 use std::alloc::Global;
 use task_ast::Core;
 use word_code::lower;
@@ -58,7 +58,7 @@ fn write_built<K: Sink>(
     ensures out_steady { (IsErrOf result WriteFault → ⊥) → K.faults out.new ≡ K.faults out.old }
     ensures out_faults { K.faults out.old ≤ K.faults out.new }
 {
-    every_image_of_a_program_without_sites_is_sound(core, scheme);
+    every_image_is_sound(core, scheme);
     let image = image_of(alloc, core, scheme)?;
     let bytes = write_image(alloc, &image)?;
     send_all(out, bytes.as_slice())?;

@@ -1,4 +1,3 @@
-pub mod Bare
 pub mod EveryRun
 pub mod Marked
 pub mod PlainLog

@@ -24,7 +24,6 @@ use Rattle.word_code.specs.ImageOf.{IsImageOf}
 use Rattle.plan_restore.specs.Kept.{planned}
 use Rattle.sound_runs.specs.Keeps.{IsSoundOn}
 use Rattle.sound_images.specs.Sound.{states_on}
-use Rattle.sound_images.proofs.Bare.{IsPlain, all_sealed}
 use Rattle.sound_images.proofs.States.{Shows, states_shown}
 
 -- where an image's machine begins
@@ -57,9 +56,3 @@ module _ (c : Core) (scheme : Scheme) (i : Image) (world : World) where
         agree = h.sound.keeps.agree;
         ends = subst (λ n. AllEndWell 1 n its_journal.boots its_journal.ending) none h.ends;
       }
-
-  -- in a program without sites nothing is to be sealed
-  pub bare_sealed : ((cuts : List ℕ) (s : Standing) → AllByRecursion (AllByRecursion IsPlain) (map events_in (boots_from (rules_of c world) cuts s)))
-      → all_events its_journal ≡ expect (rules_of c world) (cuts_of its_journal) (looks_of its_journal) → AllSealed c its_journal.boots (ends_from its_journal.boots its_journal.steps)
-  bare_sealed plain expected =
-      all_sealed c its_journal.boots its_journal.steps (subst (λ (es : List (List JournalEvent)). AllByRecursion (AllByRecursion IsPlain) es) (sym expected) (plain (cuts_of its_journal) (start c (looks_of its_journal))))

@@ -88,8 +88,3 @@ pub record RunsSoundly (c : Core) (scheme : Scheme) (i : Image) (world : World) 
 pub record IsSound (c : Core) (scheme : Scheme) (i : Image) : Type 0 where
   pub tells : TellsProgram c scheme i
   pub runs : (world : World) → IsWithinLimits world → RunsSoundly c scheme i world
-
--- ---- programs without sites
-
-abbrev pub HasNoSites : Core → Type 0
-HasNoSites c = AllByRecursion (λ (t : CoreTask). t.sites ≡ []) c.tasks

@@ -1,21 +1,20 @@
--- Its code runs the plan, and nothing is to be sealed.
-use Rattle.std.proofs.Common.{subst, sym}
+-- Its code runs the plan, and its records are sealed in time.
+use Rattle.std.proofs.Common.{refl, subst, sym}
 use Rattle.code_cuts.specs.Boots.{RunsPlan}
 use Rattle.devices.specs.Reading.{values_in}
 use Rattle.plan_restore.specs.Kept.{planned}
 use Rattle.power_trace.specs.Report.{place_in}
 use Rattle.run_plan.specs.PlanOf.{plan_of}
-use Rattle.task_attempts.specs.Along.{setting_of}
 use Rattle.task_attempts.specs.Boots.{rules_of}
-use Rattle.code_places.specs.Placed.{program_by}
-use Rattle.sound_images.proofs.Bare.{bare_boots}
-use Rattle.sound_images.proofs.PlainLog.{plain_statement}
+use Rattle.code_places.specs.Placed.{IsPlaced, program_by}
+use Rattle.copy_runs.specs.Told.{TellsPlaces}
 use Rattle.sound_images.proofs.Soundness.{RunLaws, image_sound, program_same, sound_run, world_sound}
-use Rattle.sound_images.proofs.Whole.{bare_sealed}
-use Rattle.sound_images.proofs.laws.every_image_of_a_program_without_sites_is_sound.Goals as goal
+use Rattle.sound_images.proofs.ToldPlaces.{told_kept, told_place}
+use Rattle.sound_images.proofs.Whole.{first_spot}
+use Rattle.sound_images.proofs.laws.every_image_is_sound.Goals as goal
 
 pub returns : goal.returns
-returns g = λ i image bare.
+returns g = λ i image.
     let c = g.args.c.now in
     let scheme = g.args.scheme in
     let well = g.requires in
@@ -31,10 +30,12 @@ returns g = λ i image bare.
     } in
     image_sound law c scheme i well image (λ world limits.
     let values = values_in world.feeds in
+    let same = program_same law c scheme i well image values in
+    let placed : IsPlaced _ (plan_of c scheme) c = subst (λ p. IsPlaced p (plan_of c scheme) c) (sym same) (g.the_code_of_a_plan_lies_in_its_image.ensures values) in
+    let tells : TellsPlaces (place_in i) c scheme = record { places = λ bank is at inside. told_place c scheme i well image bank is at inside; kept = λ n few. told_kept c scheme i image n few } in
     let plan : RunsPlan _ (place_in i) (planned c world scheme) =
-    subst (λ p. RunsPlan p (place_in i) (planned c world scheme)) (sym (program_same law c scheme i well image values))
-    (g.a_program_without_sites_runs_its_plan.ensures c world scheme (program_by (plan_of c scheme) c values) (place_in i) well bare (g.the_code_of_a_plan_lies_in_its_image.ensures values) (λ e on commits. g.a_stop_halts.ensures values e on commits)) in
+    subst (λ p. RunsPlan p (place_in i) (planned c world scheme)) (sym same) (g.an_image_runs_its_plan.ensures world values (place_in i) limits tells) in
     world_sound law c scheme i well image world limits plan
-    (bare_sealed c scheme i world (λ cuts s. bare_boots c world (λ t statement none go here. plain_statement (setting_of (rules_of c world) t) statement none go here) well bare cuts s)
+    (g.a_journal_of_the_rules_is_sealed_in_time.ensures _ (place_in i) placed (g.the_places_of_an_image_tell_memory.ensures i image) (rules_of c world) refl world.power (first_spot i) refl
     (sound_run law c scheme i well image world limits plan).keeps.expected)
     (g.every_image_names_the_tasks_of_its_events.ensures i image world))
