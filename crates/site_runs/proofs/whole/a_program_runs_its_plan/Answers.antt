@@ -31,5 +31,5 @@ returns c = λ core world scheme p place_of well limits lies stops told.
     let calls : AllCallsLead p place_of core world scheme = λ n t found. c.calls_lead_on.ensures p place_of (doing (planned core world scheme) (suc n) t) (suc n) well found limits in
     let blocks : AllBlocksLead p place_of core world scheme = λ n t found. c.blocks_lead_on.ensures p place_of (doing (planned core world scheme) (suc n) t) (suc n) well found in
     let copies : AllCopiesLead p place_of core world scheme = λ n t found.
-        c.copies_lead_on.ensures p place_of (doing (planned core world scheme) (suc n) t) (suc n) well found (firsts_there p place_of law core world scheme well lies n t found) told in
+    c.copies_lead_on.ensures p place_of (doing (planned core world scheme) (suc n) t) (suc n) well found (firsts_there p place_of law core world scheme well lies n t found) told in
     c.boots_run_as_planned.ensures p place_of (planned core world scheme) well (all_boots p place_of law core world scheme well lies (site_attempts p place_of law core world scheme well lies calls blocks copies)) stops
