@@ -46,6 +46,7 @@ record_stays d k s t (Some (site.Copy most)) same h = record {
   class = λ none. h.class (sym same.class ∙ none);
   to = h.to;
   there = same.to ∙ h.there;
+  starts = h.starts;
   inside = subst (λ n. h.to.index + n ≤ room_at (layout_of (core_of d) 0) h.to.array) (sym same.length) h.inside;
   written = h.written;
   room = subst (λ n. kept_at d k + n ≤ 16384) (sym same.length) h.room;
@@ -65,7 +66,7 @@ follows_later d now later s t cells epoch rose h = record {
 record_alone : (d : Doing) (k : ℕ) (s : State) (o : Option Site) → RecordHolds d k s o → RecordHolds (doing_of d.setting.rules d.scheme d.setting.task) k s o
 record_alone d k s (Some (site.Io ann)) h = tt
 record_alone d k s (Some (site.Block ann)) h = tt
-record_alone d k s (Some (site.Copy most)) h = record { class = h.class; to = h.to; there = h.there; inside = h.inside; written = h.written; room = h.room }
+record_alone d k s (Some (site.Copy most)) h = record { class = h.class; to = h.to; there = h.there; starts = h.starts; inside = h.inside; written = h.written; room = h.room }
 record_alone d k s None h = tt
 
 pub follows_alone : (d : Doing) (now : ℕ) (s : State) → MayFollow d now s → MayFollow (doing_of d.setting.rules d.scheme d.setting.task) now s
@@ -74,7 +75,7 @@ follows_alone d now s h = record { records = λ k here is. record_alone d k s (s
 record_with : (d : Doing) (k : ℕ) (s : State) (o : Option Site) → RecordHolds (doing_of d.setting.rules d.scheme d.setting.task) k s o → RecordHolds d k s o
 record_with d k s (Some (site.Io ann)) h = tt
 record_with d k s (Some (site.Block ann)) h = tt
-record_with d k s (Some (site.Copy most)) h = record { class = h.class; to = h.to; there = h.there; inside = h.inside; written = h.written; room = h.room }
+record_with d k s (Some (site.Copy most)) h = record { class = h.class; to = h.to; there = h.there; starts = h.starts; inside = h.inside; written = h.written; room = h.room }
 record_with d k s None h = tt
 
 pub follows_with : (d : Doing) (now : ℕ) (s : State) → MayFollow (doing_of d.setting.rules d.scheme d.setting.task) now s → MayFollow d now s

@@ -132,14 +132,15 @@ module _ (c : Core) (scheme : Scheme) (m : ℕ → ℕ) (s : State) (k : ℕ) (v
 some_not_none : {A : Type 0} (x : A) (o : Option A) → o ≡ Some x → o ≢ None
 some_not_none x o is none = absurd (cc (is, none))
 
-copy_holds : (d : Doing) (m : ℕ → ℕ) (s : State) (k : ℕ) (v : CopyValued) → v.to.index + v.length ≤ room_at (layout_of (core_of d) 0) v.to.array → base_at (layout_of (core_of d) 0) v.to.array ≢ 0 → kept_at d k + v.length ≤ 16384
+copy_holds : (d : Doing) (m : ℕ → ℕ) (s : State) (k : ℕ) (v : CopyValued) → v.to.index < room_at (layout_of (core_of d) 0) v.to.array → v.to.index + v.length ≤ room_at (layout_of (core_of d) 0) v.to.array → base_at (layout_of (core_of d) 0) v.to.array ≢ 0 → kept_at d k + v.length ≤ 16384
     → CopyHolds d k (with_length (core_of d) d.scheme m s k v)
-copy_holds d m s k v inside clear few =
+copy_holds d m s k v starts inside clear few =
     let long : changes.put k v.length s.cells.length k ≡ v.length = got k v.length s.cells.length in
     record {
       class = some_not_none v.class _ (got k (Some v.class) s.cells.class);
       to = v.to;
       there = got k (Some v.to) s.cells.to;
+      starts = starts;
       inside = subst (λ n. v.to.index + n ≤ room_at (layout_of (core_of d) 0) v.to.array) (sym long) inside;
       written = clear;
       room = subst (λ n. kept_at d k + n ≤ 16384) (sym long) few;
@@ -220,7 +221,7 @@ module _ (keep : WritesKeep) (fram : FramKeeps) (p : Program) (place_of : ℕ �
           (copy_whole (core_of d) d.scheme m.store s k v here.few here.from)
 
       holds : (v : CopyValued) → s.frame.copy ≡ Some v → RecordHolds d k (with_length (core_of d) d.scheme m.store s k v) (slice_get d.setting.task.sites (k - 1))
-      holds v one = subst (RecordHolds d k (with_length (core_of d) d.scheme m.store s k v)) (sym is) (copy_holds d m.store s k v (related.memory.ram.frame.copy v one).to.inside (asks.clear v one) (asks.room v one))
+      holds v one = subst (RecordHolds d k (with_length (core_of d) d.scheme m.store s k v)) (sym is) (copy_holds d m.store s k v (asks.starts v one) (related.memory.ram.frame.copy v one).to.inside (asks.clear v one) (asks.room v one))
 
       by_copy : (o : Option CopyValued) → s.frame.copy ≡ o
           → Cuts p place_of d m s (have o (λ v. sealed k (puts_class k v.class ∷ puts_to k v.to ∷ puts_from k v.from ∷ puts_length k v.length ∷ puts_flag k s.epoch ∷ [])))

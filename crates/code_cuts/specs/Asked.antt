@@ -1,11 +1,11 @@
 -- What acts of sites ask, so that they miss nothing that an act before them makes.
-use Rattle.std.specs.Prelude.{◌≡◌, ◌≢◌, ℕ, ◌≤◌, Some, None}
+use Rattle.std.specs.Prelude.{◌≡◌, ◌≢◌, ℕ, ◌<◌, ◌≤◌, Some, None}
 use Rattle.walk_run.specs.declared.place.Place.{Place}
 use Rattle.word_machine.specs.Straight.{Spot}
 use Rattle.run_plan.specs.Cells.{CopyValued, State}
 use Rattle.run_plan.specs.Deeds.{class_now}
 use Rattle.run_plan.specs.Small.{Doing, core_of}
-use Rattle.line_laws.specs.Relation.{base_at}
+use Rattle.line_laws.specs.Relation.{base_at, room_at}
 use Rattle.layout_laws.specs.Layouts.{layout_of}
 use Rattle.act_refines.specs.Does.{IsFree}
 use Rattle.act_refines.specs.Moves.{IsRecorded, IsRoomFor}
@@ -68,10 +68,11 @@ pub record SealsBlock (k : ℕ) (m : Spot) (s : State) : Type 0 where
   pub begun : HasBegun k m s
   pub past : (t : ℕ) → s.frame.begun k ≡ Some t → t ≤ m.clock
 
--- a copy goes to no constant, and the site's kept words have room for it
+-- a copy goes to a place of an array that isn't constant, also where it has no words, and the site's kept words have room for it
 pub record SealsCopy (d : Doing) (k : ℕ) (m : Spot) (s : State) : Type 0 where
   pub free : IsFree k m s
   pub copy : HasCopy m s
+  pub starts : (v : CopyValued) → s.frame.copy ≡ Some v → v.to.index < room_at (layout_of (core_of d) 0) v.to.array
   pub clear : (v : CopyValued) → s.frame.copy ≡ Some v → base_at (layout_of (core_of d) 0) v.to.array ≢ 0
   pub room : IsRoomFor d k m s
 

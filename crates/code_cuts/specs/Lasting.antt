@@ -1,5 +1,5 @@
 -- What outlives a power failure, as it stands for a state of the plan, and how far a run has come (docs/CODE.md, "Cuts").
-use Rattle.std.specs.Prelude.{List, [], ◌∷◌, ◌≡◌, ◌≢◌, ℕ, ◌+◌, ◌-◌, ◌≤◌, ◌⊎◌, ⊤, drop, false, length, slice_get, Option, Some, None}
+use Rattle.std.specs.Prelude.{List, [], ◌∷◌, ◌≡◌, ◌≢◌, ℕ, ◌+◌, ◌-◌, ◌<◌, ◌≤◌, ◌⊎◌, ⊤, drop, false, length, slice_get, Option, Some, None}
 use Rattle.devices.specs.Journal.{JournalEvent, begins, looks, keeps, drops, issues, seals, copies, commits, traps}
 use Rattle.task_ast.specs.declared.core_form.Core.{Core}
 use Rattle.task_ast.specs.declared.core_form.CoreTask.{CoreTask}
@@ -32,11 +32,12 @@ abbrev pub doing_of : Rules → Scheme → CoreTask → Doing
 doing_of rules scheme t = record { setting = record { rules = rules; task = t }; scheme = scheme; firsts = [] }
 
 -- A copy's record that may be followed: its class and its destination are there, and its words have room there and among the kept
--- words; the destination isn't constant.
+-- words; the destination is a place of its array, also where there are no words, and it isn't constant.
 pub record CopyHolds (d : Doing) (k : ℕ) (s : State) : Type 0 where
   pub class : s.cells.class k ≢ None
   pub to : Place
   pub there : s.cells.to k ≡ Some to
+  pub starts : to.index < room_at (layout_of (core_of d) 0) to.array
   pub inside : to.index + s.cells.length k ≤ room_at (layout_of (core_of d) 0) to.array
   pub written : base_at (layout_of (core_of d) 0) to.array ≢ 0
   pub room : kept_at d k + s.cells.length k ≤ 16384

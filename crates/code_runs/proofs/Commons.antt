@@ -75,6 +75,7 @@ record_like d k s to cells (Some (site.Copy most)) h = record {
   class = subst (λ (x : Cells). x.class k ≢ None) (sym cells) h.class;
   to = h.to;
   there = ap (λ (x : Cells). x.to k) cells ∙ h.there;
+  starts = h.starts;
   inside = subst (λ (x : Cells). h.to.index + x.length k ≤ room_at (layout_of (core_of d) 0) h.to.array) (sym cells) h.inside;
   written = h.written;
   room = subst (λ (x : Cells). kept_at d k + x.length k ≤ 16384) (sym cells) h.room;
@@ -91,7 +92,7 @@ record_of : (d : Doing) (k : ℕ) (s : State) → (o : Option Site) → RecordHo
 record_of d k s None h = tt
 record_of d k s (Some (site.Io ann)) h = tt
 record_of d k s (Some (site.Block ann)) h = tt
-record_of d k s (Some (site.Copy most)) h = record { class = h.class; to = h.to; there = h.there; inside = h.inside; written = h.written; room = h.room }
+record_of d k s (Some (site.Copy most)) h = record { class = h.class; to = h.to; there = h.there; starts = h.starts; inside = h.inside; written = h.written; room = h.room }
 
 -- so it is for the task that runs
 pub follow_of : (d : Doing) (now : ℕ) (s : State) → MayFollow (doing_of d.setting.rules d.scheme d.setting.task) now s → MayFollow d now s

@@ -114,7 +114,7 @@ state_fails p d m counts s h =
 later_holds : (d : Doing) (s : State) (k : ℕ) (o : Option Site) → RecordHolds d k s o → RecordHolds d k (cells.failed (core_of d) s) o
 later_holds d s k (Some (site.Io ann)) h = tt
 later_holds d s k (Some (site.Block ann)) h = tt
-later_holds d s k (Some (site.Copy most)) h = record { class = h.class; to = h.to; there = h.there; inside = h.inside; written = h.written; room = h.room }
+later_holds d s k (Some (site.Copy most)) h = record { class = h.class; to = h.to; there = h.there; starts = h.starts; inside = h.inside; written = h.written; room = h.room }
 later_holds d s k None h = tt
 
 pub follows_failed : (d : Doing) (now later : ℕ) (s : State) → now ≤ later → MayFollow d now s → MayFollow d later (cells.failed (core_of d) s)

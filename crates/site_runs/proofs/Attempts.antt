@@ -40,7 +40,7 @@ use Rattle.code_runs.proofs.InRows.{acts_follow}
 use Rattle.site_claims.specs.InAttempts.{In, LeadsOn}
 use Rattle.call_runs.specs.Calls.{CallsLead}
 use Rattle.site_runs.specs.Bodies.{BlocksLead}
-use Rattle.site_runs.specs.Copies.{CopiesLead}
+use Rattle.copy_runs.specs.Copies.{CopiesLead}
 use Rattle.site_runs.proofs.Claims.{in_claim}
 use Rattle.site_runs.proofs.Lying.{entered, lies_parts}
 use Rattle.site_runs.proofs.Statements.{task_body_leads}

@@ -5,7 +5,7 @@ ghost use Rattle.devices.specs.Journal.{Place};
 ghost use Rattle.run_plan.specs.PlanOf.{around, body_acts};
 ghost use Rattle.run_plan.specs.Small.{Doing, core_of};
 ghost use Rattle.site_runs.specs.Bodies.{ActsLead, BlocksLead};
-ghost use Rattle.site_runs.specs.Copies.{CopiesLead};
+ghost use Rattle.copy_runs.specs.Copies.{CopiesLead};
 ghost use Rattle.task_ast.specs.WellFormed.{IsCoreTask, IsWellFormed};
 ghost use Rattle.task_attempts.specs.Boots.{task_of};
 ghost use Rattle.word_machine.specs.State.{Program};

@@ -4,11 +4,11 @@ ghost use Rattle.code_cuts.specs.Boots.{RunsPlan};
 ghost use Rattle.code_places.specs.Placed.{IsPlaced, program_by};
 ghost use Rattle.code_runs.specs.Bare.{planned};
 ghost use Rattle.code_runs.specs.Booting.{StopsSoon};
+ghost use Rattle.copy_runs.specs.Told.{TellsPlaces};
 ghost use Rattle.devices.specs.Journal.{Place};
 ghost use Rattle.devices.specs.World.{IsWithinLimits};
 ghost use Rattle.devices.specs.declared.world.World.{World};
 ghost use Rattle.run_plan.specs.PlanOf.{plan_of};
-ghost use Rattle.site_runs.specs.Programs.{AllCopiesLead};
 ghost use Rattle.task_ast.specs.WellFormed.{IsWellFormed};
 ghost use Rattle.task_ast.specs.declared.core_form.Core.{Core};
 ghost use Rattle.word_isa.specs.declared.parts.Scheme.{Scheme};
@@ -28,16 +28,18 @@ use code_cuts::{
 };
 use code_places::{a_stop_halts, the_code_of_a_plan_lies_in_its_image};
 use code_runs::boots_run_as_planned;
+use copy_runs::copies_lead_on;
 
 /// A machine's program in which the code of a plan lies runs the plan, cut anywhere, in every world within the limits and under
-/// both schemes, where the copies of its tasks lead on.
+/// both schemes, where words are told by their places.
 pub fn a_program_runs_its_plan()
-    ensures { (c : Core) (world : World) (scheme : Scheme) (p : Program) (place_of : ℕ → Place) → IsWellFormed c → IsWithinLimits world → IsPlaced p (plan_of c scheme) c → StopsSoon p → AllCopiesLead p place_of c world scheme
+    ensures { (c : Core) (world : World) (scheme : Scheme) (p : Program) (place_of : ℕ → Place) → IsWellFormed c → IsWithinLimits world → IsPlaced p (plan_of c scheme) c → StopsSoon p → TellsPlaces place_of c scheme
         → RunsPlan p place_of (planned c world scheme) }
 {
     boots_run_as_planned();
     blocks_lead_on();
     calls_lead_on();
+    copies_lead_on();
     an_attempt_begins_as_planned();
     an_attempt_begins_under_bank_as_planned();
     a_region_is_restored_as_planned();
@@ -59,7 +61,7 @@ pub fn a_program_runs_its_plan()
 /// So does the program of the words and marks of each checked program, whatever its peripherals read.
 pub fn an_image_runs_its_plan(c: &task_ast::Core, scheme: word_isa::Scheme)
     requires { IsWellFormed c.now }
-    ensures { (world : World) (values : ℕ → List ℕ) (place_of : ℕ → Place) → IsWithinLimits world → AllCopiesLead (program_by (plan_of c.now scheme) c.now values) place_of c.now world scheme
+    ensures { (world : World) (values : ℕ → List ℕ) (place_of : ℕ → Place) → IsWithinLimits world → TellsPlaces place_of c.now scheme
         → RunsPlan (program_by (plan_of c.now scheme) c.now values) place_of (planned c.now world scheme) }
 {
     a_program_runs_its_plan();

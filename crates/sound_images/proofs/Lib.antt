@@ -1,5 +1,6 @@
 pub mod Bare
 pub mod EveryRun
+pub mod Marked
 pub mod PlainLog
 pub mod Soundness
 pub mod States

@@ -1,7 +1,7 @@
 -- An image of a program whose code runs its plan is sound.
 use Rattle.std.specs.Prelude.{◌^◌, ◌%◌, slice_index}
 use Rattle.std.specs.List.{AllByRecursion}
-use Rattle.std.proofs.Common.{◌≡◌, ◌∙◌, ℕ, ◌+◌, ◌<◌, ◌≤◌, false, List, map, length, refl, sym, ap, subst, arith}
+use Rattle.std.proofs.Common.{◌≡◌, ◌∙◌, ℕ, ◌+◌, ◌<◌, ◌≤◌, false, List, None, map, length, refl, sym, ap, subst, arith}
 use Rattle.devices.specs.Journal.{Boot, JournalEvent, Place}
 use Rattle.devices.specs.Reading.{values_in}
 use Rattle.devices.specs.World.{IsWithinLimits, steps_of, ticks_of}
@@ -15,6 +15,7 @@ use Rattle.task_ast.specs.declared.core_form.CoreTask.{CoreTask}
 use Rattle.task_attempts.specs.Boots.{rules_of}
 use Rattle.task_attempts.specs.Journals.{looks_of}
 use Rattle.task_attempts.specs.Sound.{AllEndWell, AllSealed, IsTimed, ends_from}
+use Rattle.task_marks.specs.Told.{AtTheirTasks}
 use Rattle.word_isa.specs.declared.image.Image.{Image}
 use Rattle.word_isa.specs.declared.parts.Scheme.{Scheme}
 use Rattle.word_isa.specs.declared.parts.Scheme.TheVariants.{Bank}
@@ -40,7 +41,7 @@ use Rattle.sound_runs.specs.Keeps.{IsSoundOn}
 use Rattle.sound_runs.proofs.Starting.{starts_well}
 use Rattle.sound_runs.proofs.Whole.{sound_on}
 use Rattle.timely_events.proofs.InTime.{journal_in_time}
-use Rattle.sound_images.specs.Sound.{IsSound, RunsSoundly, TakeTurns}
+use Rattle.sound_images.specs.Sound.{IsSound, RunsSoundly, TakeTurns, marks_shown}
 use Rattle.sound_images.proofs.EveryRun.{every_run}
 use Rattle.sound_images.proofs.States.{Shows}
 use Rattle.sound_images.proofs.Tells.{tells_program}
@@ -96,8 +97,8 @@ module _ (law : RunLaws) (c : Core) (scheme : Scheme) (i : Image) (well : IsWell
       pub sound_run : IsSoundOn its_program (place_in i) (planned c world scheme) world.power (first_spot i)
       sound_run = sound_on c world scheme its_program (place_in i) (halts_unmarked i (values_in world.feeds)) (every_run c world scheme well) world.power (first_spot i) followed
 
-      pub world_sound : AllSealed c (journal_on i world).boots (ends_from (journal_on i world).boots (journal_on i world).steps) → RunsSoundly c scheme i world
-      world_sound sealed = record {
+      pub world_sound : AllSealed c (journal_on i world).boots (ends_from (journal_on i world).boots (journal_on i world).steps) → AtTheirTasks None (marks_shown i world) → RunsSoundly c scheme i world
+      world_sound sealed marked = record {
         keeps = run_keeps c scheme i world well image (law.shows c scheme) (record {
           sound = sound_run;
           timed = law.timed its_program (place_in i) world (live (first_spot i)) limits refl;
@@ -109,6 +110,7 @@ module _ (law : RunLaws) (c : Core) (scheme : Scheme) (i : Image) (well : IsWell
         turns = λ bank.
             subst (λ a. TakeTurns 0 (map (λ (x : ℕ × machine.State). x.1.store a % 2) (committed_on its_program world.power (live (first_spot i))))) (sym image.state)
             (all_turns its_program (place_in i) (planned c world scheme) bank well world.power (first_spot i) (started (planned c world scheme) looks_shown) followed);
+        marked = marked;
       }
 
   -- ---- every world

@@ -50,6 +50,7 @@ nonvolatile_few c well j is =
 
 pub tells_program : (c : Core) (scheme : Scheme) (i : Image) → IsWellFormed c → IsImageOf (plan_of c scheme) c i → TellsProgram c scheme i
 tells_program c scheme i well h = record {
+  version = h.version;
   under = h.scheme;
   symbols = subst (TellArrays c.arrays) (sym h.symbols) (tells_from (areas_from free_at_first c.arrays) 0 c.arrays (room_at_place c.arrays));
   peripherals = h.peripherals;

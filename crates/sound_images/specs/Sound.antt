@@ -1,5 +1,5 @@
 -- What it means that an image is sound for a program (docs/CODE.md, "What is proved").
-use Rattle.std.specs.Prelude.{List, [], ◌∷◌, ◌≡◌, ◌≢◌, ◌≤◌, ◌%◌, ℕ, ⊤, length, map}
+use Rattle.std.specs.Prelude.{List, [], ◌∷◌, ◌≡◌, ◌≢◌, ◌≤◌, ◌%◌, ℕ, ⊤, None, length, map}
 use Rattle.std.specs.List.{AllByRecursion}
 use Rattle.devices.specs.Reading.{values_in}
 use Rattle.devices.specs.World.{IsWithinLimits}
@@ -14,8 +14,10 @@ use Rattle.task_ast.specs.declared.tree.Kind.{Kind}
 use Rattle.task_ast.specs.declared.tree.Kind.TheVariants.{Nv, Const, Vol}
 use Rattle.task_attempts.specs.Boots.{rules_of}
 use Rattle.task_attempts.specs.Sound.{KeepsRules}
+use Rattle.task_marks.specs.Told.{AtTheirTasks, marks_on}
 use Rattle.walk_run.specs.declared.walked.State.{State}
 use Rattle.word_isa.specs.declared.image.Image.{Image}
+use Rattle.word_isa.specs.declared.mark.Mark.{Mark}
 use Rattle.word_isa.specs.declared.parts.Scheme.{Scheme}
 use Rattle.word_isa.specs.declared.parts.Symbol.{Symbol}
 use Rattle.word_isa.specs.declared.parts.Scheme.TheVariants.{Bank}
@@ -44,8 +46,9 @@ IsBelow stride Nv n = n ≤ stride
 IsBelow stride Const n = ⊤
 IsBelow stride Vol n = ⊤
 
--- an image's scheme, symbols and peripherals are those of a program under a scheme
+-- an image's scheme, symbols and peripherals are those of a program under a scheme, and its marks name tasks
 pub record TellsProgram (c : Core) (scheme : Scheme) (i : Image) : Type 0 where
+  pub version : i.version ≡ 2
   pub under : i.scheme ≡ scheme
   pub symbols : TellArrays c.arrays i.symbols
   pub peripherals : i.peripherals ≡ c.peripherals
@@ -69,10 +72,16 @@ abbrev pub TakeTurns : (bank : ℕ) → List ℕ → Type 0
 TakeTurns bank [] = ⊤
 TakeTurns bank (next ∷ banks) = (next ≢ bank) × TakeTurns next banks
 
--- on one world its run keeps the rules
+-- the marks that the events of a run come from, in order
+abbrev pub marks_shown : Image → World → List Mark
+marks_shown i world = marks_on i.marks (program_in i (values_in world.feeds)) world.power (start i.fram)
+
+-- On one world its run keeps the rules, and each event that comes from a mark of another kind than a begin's comes from one that
+-- names the task that began last.
 pub record RunsSoundly (c : Core) (scheme : Scheme) (i : Image) (world : World) : Type 0 where
   pub keeps : KeepsRules (rules_of c world) scheme (journal_on i world) (states_on i world)
   pub turns : scheme ≡ Bank → TakeTurns 0 (banks_on i world)
+  pub marked : AtTheirTasks None (marks_shown i world)
 
 -- A sound image tells the program, and on every world within the limits, and every list of power failures that it has, its run
 -- keeps the rules.

@@ -1,3 +1,4 @@
 mod Halting
 mod Idling
+mod OtherTask
 mod Worlds

@@ -1,15 +1,15 @@
 -- The laws on each act, at the places where its code lies.
 use Rattle.std.specs.Prelude.{false, suc}
 use Rattle.code_runs.specs.Bare.{planned}
-use Rattle.code_runs.proofs.BareBoots.{all_boots}
+use Rattle.code_runs.proofs.BareBoots.{all_boots, firsts_there}
 use Rattle.code_runs.proofs.BareLaws.{BareLaws}
 use Rattle.run_plan.specs.Runs.{doing}
-use Rattle.site_runs.specs.Programs.{AllBlocksLead, AllCallsLead}
+use Rattle.site_runs.specs.Programs.{AllBlocksLead, AllCallsLead, AllCopiesLead}
 use Rattle.site_runs.proofs.Programs.{site_attempts}
 use Rattle.site_runs.proofs.whole.a_program_runs_its_plan.Goals as goal
 
 pub returns : goal.returns
-returns c = λ core world scheme p place_of well limits lies stops copies.
+returns c = λ core world scheme p place_of well limits lies stops told.
     let law : BareLaws p place_of = record {
       restores = λ d number r. c.a_region_is_restored_as_planned.ensures p place_of d number false r;
       restores_cut = λ d number r. c.a_region_is_restored_in_cuts.ensures p place_of d number false r;
@@ -30,4 +30,6 @@ returns c = λ core world scheme p place_of well limits lies stops copies.
     } in
     let calls : AllCallsLead p place_of core world scheme = λ n t found. c.calls_lead_on.ensures p place_of (doing (planned core world scheme) (suc n) t) (suc n) well found limits in
     let blocks : AllBlocksLead p place_of core world scheme = λ n t found. c.blocks_lead_on.ensures p place_of (doing (planned core world scheme) (suc n) t) (suc n) well found in
+    let copies : AllCopiesLead p place_of core world scheme = λ n t found.
+        c.copies_lead_on.ensures p place_of (doing (planned core world scheme) (suc n) t) (suc n) well found (firsts_there p place_of law core world scheme well lies n t found) told in
     c.boots_run_as_planned.ensures p place_of (planned core world scheme) well (all_boots p place_of law core world scheme well lies (site_attempts p place_of law core world scheme well lies calls blocks copies)) stops

@@ -36,4 +36,5 @@ returns g = λ i image bare.
     (g.a_program_without_sites_runs_its_plan.ensures c world scheme (program_by (plan_of c scheme) c values) (place_in i) well bare (g.the_code_of_a_plan_lies_in_its_image.ensures values) (λ e on commits. g.a_stop_halts.ensures values e on commits)) in
     world_sound law c scheme i well image world limits plan
     (bare_sealed c scheme i world (λ cuts s. bare_boots c world (λ t statement none go here. plain_statement (setting_of (rules_of c world) t) statement none go here) well bare cuts s)
-    (sound_run law c scheme i well image world limits plan).keeps.expected))
+    (sound_run law c scheme i well image world limits plan).keeps.expected)
+    (g.every_image_names_the_tasks_of_its_events.ensures i image world))

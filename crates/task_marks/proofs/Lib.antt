@@ -1,0 +1,9 @@
+pub mod ActFlows
+pub mod Among
+pub mod Examples
+pub mod Flows
+pub mod LineFlows
+pub mod Reading
+pub mod Sites
+pub mod Steps
+pub mod Whole
