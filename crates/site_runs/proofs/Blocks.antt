@@ -1,5 +1,5 @@
 -- The acts of a block lead on: its beginning is noted inside it, and at its end the mode outside is back.
-use Rattle.std.specs.Prelude.{◌≢◌, ◌%◌, ◌^◌, cond, Some, None, Option, slice_get}
+use Rattle.std.specs.Prelude.{◌≢◌, cond, Some, None, Option, slice_get}
 use Rattle.std.specs.List.{AllByRecursion}
 use Rattle.std.proofs.Common.{◌≡◌, ◌∙◌, ℕ, suc, ◌+◌, ◌-◌, ◌<◌, ◌≤◌, false, List, [], ◌∷◌, ◌++◌, refl, sym, ap, subst, arith}
 use Rattle.std.proofs.lemmas.Bool.{eq-eqb, ne_eqb}
@@ -15,14 +15,13 @@ use Rattle.task_ast.specs.declared.tree.Ann.{Ann}
 use Rattle.task_attempts.specs.Boots.{task_of}
 use Rattle.task_attempts.specs.Calls.{annotation}
 use Rattle.task_attempts.specs.Changes.{put}
-use Rattle.task_attempts.specs.Told.{next_look}
 use Rattle.word_machine.specs.State.{Program}
 use Rattle.word_machine.specs.Straight.{Spot}
 use Rattle.line_laws.specs.Standing.{Lie}
 use Rattle.run_plan.specs.declared.act.Act.{Act}
 use Rattle.run_plan.specs.declared.act.Act.TheVariants as act
 use Rattle.run_plan.specs.Cells.{State, puts_flag, puts_stamp}
-use Rattle.run_plan.specs.Deeds.{leaving, look_done, seal_done, sealed, stamp_held}
+use Rattle.run_plan.specs.Deeds.{leaving, seal_done, sealed, stamp_held}
 use Rattle.run_plan.specs.PlanOf.{block_end_acts}
 use Rattle.run_plan.specs.Rows.{act_row_of}
 use Rattle.run_plan.specs.RunRows.{run_joined, run_leave}
@@ -35,13 +34,13 @@ use Rattle.word_code.specs.Sizes.{act_size, acts_size}
 use Rattle.code_places.specs.Placed.{ActLies, ActsLie}
 use Rattle.act_laws.specs.Words.{FitsLimit}
 use Rattle.cell_laws.specs.Standing.{IsSite}
-use Rattle.act_refines.specs.Does.{DoesAct, IsDue, IsEarlier, IsFree, Nothing, frame_of}
+use Rattle.act_refines.specs.Does.{DoesAct, IsEarlier, IsFree, Nothing, frame_of}
 use Rattle.code_cuts.specs.Acts.{CutsAct}
 use Rattle.code_cuts.specs.Asked.{IsInside, IsTimed, SealsBlock}
 use Rattle.code_runs.specs.Following.{AnyWay}
-use Rattle.code_runs.proofs.Placing.{Keeps, known_behind, later, may_follow}
+use Rattle.code_runs.proofs.Placing.{Keeps, known_behind, later}
 use Rattle.site_claims.specs.InAttempts.{In, IsAround, IsLooked, LeadsOn, Never, With}
-use Rattle.site_claims.proofs.Behind.{around_later, attempt_behind, attempt_kept}
+use Rattle.site_claims.proofs.Behind.{around_later, attempt_kept}
 use Rattle.site_claims.proofs.Leading.{act_leads, each_way, no_leads, straight_leads}
 use Rattle.site_claims.proofs.Lists.{lists_lie}
 use Rattle.site_runs.specs.Bodies.{BlocksLead, IsBlockOf}

@@ -1,7 +1,7 @@
 -- What is known in an attempt is a claim, whatever blocks are around: acts without sites keep it.
 use Rattle.std.specs.Prelude.{◌≢◌, None}
 use Rattle.std.specs.List.{AllByRecursion}
-use Rattle.std.proofs.Common.{◌≡◌, ◌∙◌, ℕ, ◌≤◌, List, [], ◌∷◌, sym, ap, subst, arith}
+use Rattle.std.proofs.Common.{◌≡◌, ◌∙◌, ℕ, ◌≤◌, List, [], ◌∷◌, sym, subst, arith}
 use Rattle.devices.specs.Journal.{Place}
 use Rattle.word_machine.specs.State.{Program}
 use Rattle.word_machine.specs.Straight.{Spot}
