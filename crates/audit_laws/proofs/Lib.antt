@@ -1,0 +1,6 @@
+mod AllowedLaws
+mod BootWalks
+mod EndLaws
+mod JournalLaws
+mod LogLaws
+mod SiteLaws

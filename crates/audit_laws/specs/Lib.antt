@@ -1,0 +1,4 @@
+pub mod Expected
+pub mod Followed
+pub mod Right
+pub mod Stops
