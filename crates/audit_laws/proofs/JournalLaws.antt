@@ -40,7 +40,7 @@ within n m test = grind (arith, nat_tests)
 beyond : (n m : ℕ) → nat_le n m ≡ false → m < n
 beyond n m test = grind (arith, nat_tests)
 
-length_events : (xs : List TimedEvent) → length (events xs) ≡ length xs
+pub length_events : (xs : List TimedEvent) → length (events xs) ≡ length xs
 length_events [] = refl
 length_events (x ∷ xs) = ap suc (length_events xs)
 

@@ -8,7 +8,7 @@ use Rattle.audit_check.specs.Leads.{Awaited, relooked, told_with, End, IsNext, L
 use Rattle.audit_laws.specs.Expected.{times_in}
 
 -- the log where the times of some events, and then others, are those of the looks to come
-abbrev awaited : Awaited → List JournalEvent → (others : List ℕ) → Log
+abbrev pub awaited : Awaited → List JournalEvent → (others : List ℕ) → Log
 awaited f es others = f (times_in es ++ others)
 
 -- behind an event that is the next

@@ -33,7 +33,10 @@ same_within f g m (suc n) same =
 
 -- the first numbers of a range, none of which passes
 none_first : (f : ℕ → Bool) (m a n : ℕ) → ((j : ℕ) → m ≤ j → j < m + a → f j ≡ false) → filter f (range_with_len m (a + n)) ≡ filter f (range_with_len (m + a) n)
-none_first f m zero n none = let at : m ≡ m + 0 = omega arith in ap (λ k. filter f (range_with_len k n)) at
+none_first f m zero n none =
+    let all : 0 + n ≡ n = omega arith in
+    let at : m ≡ m + 0 = omega arith in
+    λ i. filter f (range_with_len (at i) (all i))
 none_first f m (suc a) n none =
     let more : suc a + n ≡ suc (a + n) = omega arith in
     let at : m + 1 + a ≡ m + suc a = omega arith in

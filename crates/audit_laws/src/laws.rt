@@ -20,7 +20,7 @@ use devices::World;
 use task_ast::Core;
 
 /// A boot goes along the rules, attempt by attempt, until its events end or the next one isn't theirs.
-#[tactic(auto, using(crate::proofs::BootWalks::boot_tracks))]
+
 pub fn boots_go_along(c: &Core, world: &World)
     requires { IsWellFormed c.now }
     ensures { (tasks : List Around) → AreAround c.now tasks → (b : ReportBoot) (w : Walking) (s : Standing) → Knows world.now.feeds w s
@@ -28,7 +28,7 @@ pub fn boots_go_along(c: &Core, world: &World)
 {}
 
 /// The first lines of a journal that are allowed are as many as fit the world and as the walk goes along, whichever are fewer.
-#[tactic(auto, using(crate::proofs::AllowedLaws::allowed_reach))]
+
 pub fn a_walk_finds_the_lines_that_are_allowed(c: &Core, world: &World)
     requires { IsWellFormed c.now }
     ensures { (tasks : List Around) → AreAround c.now tasks → (boots : List ReportBoot) (n : ℕ) → lines_of (boots_of boots) ≤ 4294967295
