@@ -1,6 +1,9 @@
 mod AllowedLaws
 mod BootWalks
 mod EndLaws
+mod FrontLaws
+mod GatheredLaws
 mod JournalLaws
 mod LogLaws
 mod SiteLaws
+mod TextLaws
