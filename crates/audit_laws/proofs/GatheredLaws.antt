@@ -103,10 +103,10 @@ module _ (c : Core) (given : (e : JournalEvent) → IsOf c e → event_in c (eve
 
   -- ---- what is gathered from lines that tell this is this
 
-  record Reads (g : Gathered) (es : List (ℕ × JournalEvent)) (boots : List Boot) (ending : Option (ℕ × RunEnd)) : Type 0 where
+  record Reads (g : Gathered) (es : List (ℕ × JournalEvent)) (bs : List Boot) (how : Option (ℕ × RunEnd)) : Type 0 where
     events : g.events ≡ es
-    boots : g.boots ≡ boots
-    ending : g.ending ≡ ending
+    boots : g.boots ≡ bs
+    ending : g.ending ≡ how
 
   read_event : (inside : Bool) (k : ℕ) (e : ℕ × JournalEvent) (more : List ReportLine) → inside ≡ true → IsOf c e.1 → gathered c inside k (line_told e.0 (event_told S e.1) ∷ more) ≡ with_event e (gathered c inside k more)
   read_event inside k e more is named =
@@ -130,22 +130,22 @@ module _ (c : Core) (given : (e : JournalEvent) → IsOf c e → event_in c (eve
     ending = ap (λ g. g.ending) is ∙ reads.ending;
   }
 
-  mutual
-    reads_told : (inside : Bool) (k : ℕ) (es : List (ℕ × JournalEvent)) (boots : List Boot) (ending : Option (ℕ × RunEnd)) → inside ≡ true → AreNamed c es → BootsAreNamed c boots
-        → Reads (gathered c inside k (tells k es boots ending)) es boots ending
-    reads_told inside k [] boots ending is named all = reads_boots inside k boots ending all
-    reads_told inside k (e ∷ es) boots ending is named all =
-        reads_one_more (gathered c inside k (tells k es boots ending)) _ e es boots ending (read_event inside k e (tells k es boots ending) is named.0) (reads_told inside k es boots ending is named.1 all)
+  -- events, and then what is behind them
+  reads_events : (k : ℕ) (es : List (ℕ × JournalEvent)) (boots : List Boot) (ending : Option (ℕ × RunEnd)) (more : List ReportLine) → AreNamed c es → Reads (gathered c true k more) [] boots ending → Reads (gathered c true k (events_told S es ++ more)) es boots ending
+  reads_events k [] boots ending more named rest = rest
+  reads_events k (e ∷ es) boots ending more named rest =
+      reads_one_more (gathered c true k (events_told S es ++ more)) _ e es boots ending (read_event true k e (events_told S es ++ more) refl named.0) (reads_events k es boots ending more named.1 rest)
 
-    reads_boots : (inside : Bool) (k : ℕ) (boots : List Boot) (ending : Option (ℕ × RunEnd)) → BootsAreNamed c boots → Reads (gathered c inside k (boots_told S k boots ++ end_told ending)) [] boots ending
-    reads_boots inside k [] None all = record { events = refl; boots = refl; ending = refl }
-    reads_boots inside k [] (Some e) all = record { events = refl; boots = refl; ending = refl }
-    reads_boots inside k (b ∷ boots) ending all =
-        let parted : boots_told S k (b ∷ boots) ++ end_told ending ≡ line_told b.begun_at (line.Boot k) ∷ tells (suc k) b.events boots ending =
-        ap (λ (rest : List ReportLine). line_told b.begun_at (line.Boot k) ∷ rest) (append_assoc (events_told S b.events) (boots_told S (suc k) boots) (end_told ending)) in
-        reads_boot_more (gathered c true (suc k) (tells (suc k) b.events boots ending)) _ b boots ending
-        (ap (gathered c inside k) parted ∙ read_boot inside k b.begun_at (tells (suc k) b.events boots ending))
-        (reads_told true (suc k) b.events boots ending refl all.0 all.1)
+  reads_boots : (inside : Bool) (k : ℕ) (boots : List Boot) (ending : Option (ℕ × RunEnd)) → BootsAreNamed c boots → Reads (gathered c inside k (boots_told S k boots ++ end_told ending)) [] boots ending
+  reads_boots inside k [] None all = record { events = refl; boots = refl; ending = refl }
+  reads_boots inside k [] (Some e) all = record { events = refl; boots = refl; ending = refl }
+  reads_boots inside k (b ∷ boots) ending all =
+      let behind = boots_told S (suc k) boots ++ end_told ending in
+      let parted : boots_told S k (b ∷ boots) ++ end_told ending ≡ line_told b.begun_at (line.Boot k) ∷ (events_told S b.events ++ behind) =
+      ap (λ (rest : List ReportLine). line_told b.begun_at (line.Boot k) ∷ rest) (append_assoc (events_told S b.events) (boots_told S (suc k) boots) (end_told ending)) in
+      reads_boot_more (gathered c true (suc k) (events_told S b.events ++ behind)) _ b boots ending
+      (ap (gathered c inside k) parted ∙ read_boot inside k b.begun_at (events_told S b.events ++ behind))
+      (reads_events (suc k) b.events boots ending behind all.0 (reads_boots true (suc k) boots ending all.1))
 
   -- two journals with the same lines are the same
   pub same_boots : (boots others : List Boot) (ending other : Option (ℕ × RunEnd)) → BootsAreNamed c boots → BootsAreNamed c others

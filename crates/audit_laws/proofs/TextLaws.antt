@@ -1,8 +1,8 @@
 -- The event that a text tells is the program's: its peripheral and its arrays are there.
-use Rattle.std.proofs.Common.{◌≡◌, ◌⊎◌, inl, inr, ℕ, zero, suc, ◌<◌, ◌≤◌, Bool, true, false, cond, Option, Some, None, List, [], ◌∷◌, length, take, map, refl, sym, ap, ◌∙◌, subst, arith}
-use Rattle.std.specs.Option.{option_map}
-use Rattle.std.specs.List.{position}
+use Rattle.std.proofs.Common.{◌≡◌, ◌⊎◌, inl, inr, ℕ, zero, suc, ◌<◌, ◌≤◌, Bool, true, false, cond, nat_lt, Option, Some, None, List, [], ◌∷◌, length, take, map, refl, sym, ap, ◌∙◌, subst, arith}
+use Rattle.std.specs.List.{position_or_len}
 use Rattle.std.specs.Str.{bytes_eq}
+use Rattle.std.proofs.lemmas.Bool.Decides.{nat_tests}
 use Rattle.std.proofs.lemmas.List.{length-map}
 use Rattle.ease_base.specs.declared.place.Peripheral.{Peripheral}
 use Rattle.task_ast.specs.declared.core_form.Array.{Array}
@@ -35,13 +35,11 @@ number_there (p ∷ ps) name n e = by (bytes_eq p.name name) e (λ later. number
 
 -- the place of an array is one of theirs
 array_there : (arrays : List Array) (name : List ℕ) (k : ℕ) → array_named arrays name ≡ Some k → k < length arrays
-array_there [] name k e = cc
-array_there (a ∷ arrays) name k e = by (bytes_eq a.name name) (array_named arrays name) k e (λ j is. array_there arrays name j is)
+array_there arrays name k e = by (position_or_len (λ (a : Array). bytes_eq a.name name) arrays) (length arrays) (nat_lt (position_or_len (λ (a : Array). bytes_eq a.name name) arrays) (length arrays)) refl e
   where
-    by : (t : Bool) (o : Option ℕ) (k : ℕ) → cond t (Some 0) (option_map suc o) ≡ Some k → ((j : ℕ) → o ≡ Some j → j < length arrays) → k < suc (length arrays)
-    by true o k e later = let first : 0 ≡ k = same_some 0 k e in omega (arith, first)
-    by false None k e later = cc
-    by false (Some j) k e later = let more : suc j ≡ k = same_some (suc j) k e in let less = later j refl in omega (arith, more, less)
+    by : (p n : ℕ) (t : Bool) → nat_lt p n ≡ t → cond t (Some p) None ≡ Some k → k < n
+    by p n true is e = let less : p < n = grind (arith, nat_tests) in let same : p ≡ k = same_some p k e in omega (arith, less, same)
+    by p n false is e = cc
 
 place_there : (c : Core) (p : ReportPlace) (q : Place) → place_named c.arrays p ≡ Some q → IsThere (style_of c) q
 place_there c (Cell name i) q e =
