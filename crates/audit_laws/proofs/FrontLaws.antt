@@ -19,7 +19,7 @@ use Rattle.audit_check.specs.Journal.{boots_of}
 use Rattle.audit_check.specs.Lines.{lines_of, front, Reaches}
 use Rattle.audit_check.specs.Allowed.{IsAllowed}
 use Rattle.audit_check.specs.Ended.{EndFits, end_fits}
-use Rattle.audit_laws.specs.Answers.{BootsAreNamed, end_told, IsFront, IsFirstWrong, Answer, legal, illegal, IsAnswer}
+use Rattle.audit_laws.specs.Answers.{BootsAreNamed, end_told, IsFront, IsFirstWrong, Answer, legal, illegal, no_report, IsAnswerOn, IsAnswer}
 use Rattle.audit_laws.specs.Gathered.{Gathered, gathered, end_lines, ends_well, right_lines}
 use Rattle.audit_laws.specs.Verdict.{Fronts, answer_by}
 use Rattle.audit_laws.proofs.EndLaws.{end_holds, end_shown}
@@ -188,6 +188,14 @@ module _ (world : World) (c : Core) (given : (e : JournalEvent) → IsOf c e →
     pub fronts : Fronts c world lines (right_lines n L G.ending fits)
     fronts = fronts_by (n == L) refl
 
+-- by the boots that are gathered
+pub fronts_of : (world : World) (c : Core) (given : (e : JournalEvent) → IsOf c e → event_in c (event_told (style_of c) e) ≡ Some e) (back : (t : LineText) (e : JournalEvent) → IsText t → event_in c t ≡ Some e → event_told (style_of c) e ≡ t)
+    → (whose : (t : LineText) (e : JournalEvent) → event_in c t ≡ Some e → IsOf c e) (lines : List ReportLine) → AreLines false lines → (bs : List ReportBoot) → boots_of bs ≡ (gathered c false 1 lines).boots
+    → (n : ℕ) → Reaches (IsAllowed c world) (boots_of bs) n → Fronts c world lines (right_lines n (lines_of (boots_of bs)) (gathered c false 1 lines).ending (λ e. end_fits world.power bs e.0 e.1))
+fronts_of world c given back whose lines are bs these n reach =
+    let at = fronts world c given back whose lines are bs these n (subst (λ boots. Reaches (IsAllowed c world) boots n) these reach) in
+    subst (λ boots. Fronts c world lines (right_lines n (lines_of boots) (gathered c false 1 lines).ending (λ e. end_fits world.power bs e.0 e.1))) (sym these) at
+
 -- ---- the answer
 
 answers : (c : Core) (world : World) (report : List ℕ) (lines : List ReportLine) (n : ℕ) → IsReport report lines → Fronts c world lines n → (t : Bool) → (n == length lines) ≡ t → IsAnswer c world report (cond t legal (illegal (suc n)))
@@ -206,3 +214,34 @@ answers c world report lines n is at false some =
 
 pub answer_is : (c : Core) (world : World) (report : List ℕ) (lines : List ReportLine) (n : ℕ) → IsReport report lines → Fronts c world lines n → IsAnswer c world report (answer_by n (length lines))
 answer_is c world report lines n is at = answers c world report lines n is at (n == length lines) refl
+
+-- no other answer is one
+only_answer : (c : Core) (world : World) (lines : List ReportLine) (n : ℕ) → Fronts c world lines n → (a : Answer) → IsAnswerOn c world lines a → (t : Bool) → (n == length lines) ≡ t → a ≡ cond t legal (illegal (suc n))
+only_answer c world lines n at legal right true all = refl
+only_answer c world lines n at legal right false some =
+    let other = are_other n (length lines) some in
+    absurd (at.ends (length lines) (more_right n (length lines) at.within other) (let all : length lines ≤ length lines = omega arith in all) right)
+  where
+    more_right : (n m : ℕ) → n ≤ m → (n ≡ m → ⊥) → n < m
+    more_right n m few other = by_less (ltb n m) refl
+      where
+        by_less : (t : Bool) → ltb n m ≡ t → n < m
+        by_less true is = below n m is
+        by_less false is = absurd (other (let more = above n m is in omega (arith, more, few)))
+only_answer c world lines n at (illegal k) first t is = by_line (ltb n k) refl
+  where
+    by_all : (t : Bool) → (n == length lines) ≡ t → n < k → k ≡ suc n → illegal k ≡ cond t legal (illegal (suc n))
+    by_all true all more next = let same = are_equal n (length lines) all in absurd (omega (arith, same, more, first.there))
+    by_all false some more next = ap illegal next
+
+    next_one : n < k → (t : Bool) → ltb (suc n) k ≡ t → k ≡ suc n
+    next_one more true far = let past = below (suc n) k far in absurd (at.ends (suc n) (omega arith) (omega (arith, past, first.there)) (first.before (suc n) past))
+    next_one more false near = let few = above (suc n) k near in omega (arith, few, more)
+
+    by_line : (u : Bool) → ltb n k ≡ u → illegal k ≡ cond t legal (illegal (suc n))
+    by_line true more = let past = below n k more in by_all t is past (next_one past (ltb (suc n) k) refl)
+    by_line false few = absurd (first.wrong (at.holds k (above n k few)))
+only_answer c world lines n at (no_report k) none t is = absurd none
+
+pub answer_only : (c : Core) (world : World) (lines : List ReportLine) (n : ℕ) → Fronts c world lines n → (a : Answer) → IsAnswerOn c world lines a → a ≡ answer_by n (length lines)
+answer_only c world lines n at a is = only_answer c world lines n at a is (n == length lines) refl

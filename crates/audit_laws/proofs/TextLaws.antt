@@ -1,17 +1,21 @@
 -- The event that a text tells is the program's: its peripheral and its arrays are there.
-use Rattle.std.proofs.Common.{◌≡◌, ◌⊎◌, inl, inr, ℕ, zero, suc, ◌<◌, ◌≤◌, Bool, true, false, cond, nat_lt, Option, Some, None, List, [], ◌∷◌, length, take, map, refl, sym, ap, ◌∙◌, subst, arith}
-use Rattle.std.specs.List.{position_or_len}
+use Rattle.std.proofs.Common.{◌≡◌, ◌⊎◌, inl, inr, ℕ, zero, suc, ◌<◌, ◌≤◌, Bool, true, false, cond, nat_lt, Option, Some, None, List, [], ◌∷◌, length, take, map, refl, sym, ap, ◌∙◌, subst, arith, not-suc-le-zero, le_of_suc-le-suc}
+use Rattle.std.specs.Prelude.{All, IsTrue}
+use Rattle.std.specs.List.{AllByRecursion, position_or_len}
 use Rattle.std.specs.Str.{bytes_eq}
 use Rattle.std.proofs.lemmas.Bool.Decides.{nat_tests}
 use Rattle.std.proofs.lemmas.List.{length-map}
 use Rattle.ease_base.specs.declared.place.Peripheral.{Peripheral}
 use Rattle.task_ast.specs.declared.core_form.Array.{Array}
 use Rattle.task_ast.specs.declared.core_form.Core.{Core}
+use Rattle.task_ast.specs.NameToken.{is_name}
+use Rattle.task_ast.specs.WellFormed.{IsCoreArray, IsCorePeripheral, IsWellFormed}
+use Rattle.word_isa.specs.declared.parts.Symbol.{Symbol}
 use Rattle.devices.specs.declared.event.Args.{Args}
 use Rattle.devices.specs.Journal.{Place, cell, keep, address, JournalEvent, begins, looks, keeps, drops, issues, seals, copies, commits, traps, arguments_of}
 use Rattle.report_text.specs.Events.{style_of, symbol_of, peripheral_named, array_named, place_named, event_in, HasNumber, IsOf}
 use Rattle.report_text.specs.Reading.{◌>>=◌}
-use Rattle.report_text.specs.Written.{IsThere}
+use Rattle.report_text.specs.Written.{IsFull, IsThere}
 use Rattle.report_text.specs.declared.line.LineText.{LineText}
 use Rattle.report_text.specs.declared.line.LineText.TheVariants.{Boot, Begin, Look, Kept, Drop, Issue, Seal, Copy, Commit, Trap, End}
 use Rattle.report_text.specs.declared.line.ReportPlace.{ReportPlace}
@@ -72,3 +76,18 @@ event_whose c (Copy site from to words) e told =
 event_whose c (Commit next) e told = subst (IsOf c) (same_some (commits next) e told) tt
 event_whose c (Trap code) e told = subst (IsOf c) (same_some (traps code) e told) tt
 event_whose c (End ending) e told = cc
+
+-- ---- the names of a well-formed program are names
+
+arrays_named : (arrays : List Array) → AllByRecursion IsCoreArray arrays → All (λ (s : Symbol). IsTrue (is_name s.name)) (map symbol_of arrays)
+arrays_named [] all k d less = absurd (not-suc-le-zero less)
+arrays_named (a ∷ arrays) all zero d less = all.0.0.0.0
+arrays_named (a ∷ arrays) all (suc k) d less = arrays_named arrays all.1 k d (le_of_suc-le-suc less)
+
+peripherals_named : (ps : List Peripheral) → AllByRecursion IsCorePeripheral ps → All (λ (p : Peripheral). IsTrue (is_name p.name)) ps
+peripherals_named [] all k d less = absurd (not-suc-le-zero less)
+peripherals_named (p ∷ ps) all zero d less = all.0.0.0.0
+peripherals_named (p ∷ ps) all (suc k) d less = peripherals_named ps all.1 k d (le_of_suc-le-suc less)
+
+pub style_full : (c : Core) → IsWellFormed c → IsFull (style_of c)
+style_full c well = record { brief = refl; symbols = arrays_named c.arrays well.arrays; peripherals = peripherals_named c.peripherals well.peripherals }

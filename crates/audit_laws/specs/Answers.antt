@@ -47,8 +47,14 @@ pub data Answer : Type 0 where
   illegal : (line : ℕ) → Answer
   no_report : (line : ℕ) → Answer
 
--- Legal: all lines of the report are right. Illegal: the first line with which they aren't. No report: the first line that is none of a report.
-abbrev pub IsAnswer : Core → World → (report : List ℕ) → Answer → Type 0
-IsAnswer c world report legal = (lines : List ReportLine) × IsReport report lines × IsFront c world lines (length lines)
-IsAnswer c world report (illegal n) = (lines : List ReportLine) × IsReport report lines × IsFirstWrong c world lines n
-IsAnswer c world report (no_report n) = (before : ℕ) × (n ≡ suc before) × IsRefused false report before
+-- Legal: all lines are right. Illegal: the first line with which they aren't.
+abbrev pub IsAnswerOn : Core → World → List ReportLine → Answer → Type 0
+IsAnswerOn c world lines legal = IsFront c world lines (length lines)
+IsAnswerOn c world lines (illegal n) = IsFirstWrong c world lines n
+IsAnswerOn c world lines (no_report n) = ⊥
+
+-- on the lines of a report; of bytes that are none, the first line that no report has
+abbrev pub IsAnswer : Core → World → (bytes : List ℕ) → Answer → Type 0
+IsAnswer c world bytes legal = (lines : List ReportLine) × IsReport bytes lines × IsAnswerOn c world lines legal
+IsAnswer c world bytes (illegal n) = (lines : List ReportLine) × IsReport bytes lines × IsAnswerOn c world lines (illegal n)
+IsAnswer c world bytes (no_report n) = (before : ℕ) × (n ≡ suc before) × IsRefused false bytes before

@@ -9,7 +9,7 @@ ghost use Rattle.task_attempts.specs.Sound.{IsLegal};
 ghost use Rattle.report_text.specs.declared.line.ReportLine.{ReportLine};
 ghost use Rattle.report_text.specs.Events.{style_of};
 ghost use Rattle.report_text.specs.Grammar.{IsReport};
-ghost use Rattle.report_text.specs.Written.{IsFull, IsJournal};
+ghost use Rattle.report_text.specs.Written.{IsJournal};
 ghost use Rattle.audit_check.specs.declared.around.Around.{Around};
 ghost use Rattle.audit_check.specs.declared.journal.ReportBoot.{ReportBoot};
 ghost use Rattle.audit_check.specs.Journal.{boots_of};
@@ -21,7 +21,7 @@ ghost use Rattle.audit_check.specs.Walking.{Walking};
 ghost use Rattle.audit_check.specs.Tracks.{events, Knows, from_here};
 ghost use Rattle.audit_check.specs.Booted.{boot_walked, journal_walked};
 ghost use Rattle.audit_check.specs.Ended.{EndFits, end_fits};
-ghost use Rattle.audit_laws.specs.Answers.{BootsAreNamed, IsAnswer, legal};
+ghost use Rattle.audit_laws.specs.Answers.{BootsAreNamed, Answer, legal, IsAnswerOn, IsAnswer};
 ghost use Rattle.audit_laws.specs.Gathered.{gathered, right_lines};
 ghost use Rattle.audit_laws.specs.Right.{AreAround};
 ghost use Rattle.audit_laws.specs.Stops.{Stops};
@@ -48,12 +48,15 @@ pub fn a_walk_finds_the_lines_that_are_allowed(c: &Core, world: &World)
 {}
 
 /// The answer on a report is told by how many of its first lines are right: those of its boots that are allowed, and that of its end
-/// if all of them are and the run may end so.
+/// if all of them are and the run may end so. No other answer is one.
 pub fn the_lines_that_are_right_tell_the_answer(c: &Core, world: &World)
     requires { IsWellFormed c.now }
-    ensures { (bytes : List ℕ) (lines : List ReportLine) → IsReport bytes lines → (boots : List ReportBoot) → boots_of boots ≡ (gathered c.now false 1 lines).boots
+    ensures right { (bytes : List ℕ) (lines : List ReportLine) → IsReport bytes lines → (boots : List ReportBoot) → boots_of boots ≡ (gathered c.now false 1 lines).boots
         → (n : ℕ) → Reaches (IsAllowed c.now world.now) (boots_of boots) n
         → IsAnswer c.now world.now bytes (answer_by (right_lines n (lines_of (boots_of boots)) (gathered c.now false 1 lines).ending (λ e. end_fits world.now.power boots e.0 e.1)) (length lines)) }
+    ensures only { (bytes : List ℕ) (lines : List ReportLine) → IsReport bytes lines → (boots : List ReportBoot) → boots_of boots ≡ (gathered c.now false 1 lines).boots
+        → (n : ℕ) → Reaches (IsAllowed c.now world.now) (boots_of boots) n → (a : Answer) → IsAnswerOn c.now world.now lines a
+        → a ≡ answer_by (right_lines n (lines_of (boots_of boots)) (gathered c.now false 1 lines).ending (λ e. end_fits world.now.power boots e.0 e.1)) (length lines) }
 {
     an_event_and_its_text_give_each_other();
 }
@@ -61,7 +64,7 @@ pub fn the_lines_that_are_right_tell_the_answer(c: &Core, world: &World)
 /// The full report of a journal is legal if the rules allow the journal, its steps fit the world's power, and its run may end so.
 pub fn the_report_of_a_right_journal_is_legal(c: &Core, world: &World)
     requires { IsWellFormed c.now }
-    ensures { (j : Journal) → IsFull (style_of c.now) → IsJournal (style_of c.now) j → BootsAreNamed c.now j.boots → IsLegal (rules_of c.now world.now) j
+    ensures { (j : Journal) → IsJournal (style_of c.now) j → BootsAreNamed c.now j.boots → IsLegal (rules_of c.now world.now) j
         → BootsFit 0 world.now.power j.boots → EndFits world.now.power j.boots j.steps j.ending → IsAnswer c.now world.now (report (style_of c.now) j) legal }
 {
     the_report_of_a_journal_is_of_the_lines_that_tell_it();
