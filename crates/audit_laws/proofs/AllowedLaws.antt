@@ -1,5 +1,5 @@
 -- How far a journal is allowed: as far as its steps and looks fit the world, and its events are those of the rules.
-use Rattle.std.proofs.Common.{◌≡◌, ℕ, zero, suc, ◌+◌, ◌-◌, ◌<◌, ◌≤◌, min, Bool, true, false, cond, ltb, List, [], ◌∷◌, ◌++◌, length, take, map, flat_map, replicate, Option, None, slice_index_or, refl, sym, ap, ◌∙◌, subst, arith}
+use Rattle.std.proofs.Common.{◌≡◌, ℕ, zero, suc, ◌+◌, ◌-◌, ◌<◌, ◌≤◌, min, Bool, true, false, cond, ltb, List, [], ◌∷◌, ◌++◌, length, map, flat_map, replicate, Option, None, slice_index_or, refl, sym, ap, ◌∙◌, subst, arith}
 use Rattle.std.proofs.lemmas.List.{take-map}
 use Rattle.std.proofs.lemmas.Bool.Decides.{nat_tests}
 use Rattle.task_ast.specs.declared.core_form.Core.{Core}
@@ -7,25 +7,25 @@ use Rattle.task_ast.specs.WellFormed.{IsWellFormed}
 use Rattle.devices.specs.declared.world.World.{World}
 use Rattle.devices.specs.declared.world.Feed.{Feed}
 use Rattle.devices.specs.Journal.{JournalEvent, Boot}
-use Rattle.task_attempts.specs.State.{Rules, Standing, start}
+use Rattle.task_attempts.specs.State.{start}
 use Rattle.task_attempts.specs.Boots.{rules_of, boots_from, events_in}
-use Rattle.task_attempts.specs.Journals.{events_of, all_events, cuts_of, looks_of, look_time}
+use Rattle.task_attempts.specs.Journals.{events_of, look_time}
 use Rattle.audit_check.specs.declared.around.Around.{Around}
 use Rattle.audit_check.specs.declared.journal.TimedEvent.{TimedEvent}
 use Rattle.audit_check.specs.declared.journal.ReportBoot.{ReportBoot}
 use Rattle.audit_check.specs.declared.walking.Kept.{Kept}
-use Rattle.audit_check.specs.Journal.{timed_of, boot_of, boots_of, journal_of}
-use Rattle.audit_check.specs.Lines.{lines_of, shortened, front, Reaches}
+use Rattle.audit_check.specs.Journal.{timed_of, boots_of}
+use Rattle.audit_check.specs.Lines.{lines_of, front, Reaches}
 use Rattle.audit_check.specs.Fits.{BootsFitWorld}
 use Rattle.audit_check.specs.Fitting.{capped}
 use Rattle.audit_check.specs.Allowed.{IsAllowed}
 use Rattle.audit_check.specs.Leads.{relooked}
-use Rattle.audit_check.specs.Walking.{Walking, record_at, count_of}
+use Rattle.audit_check.specs.Walking.{Walking}
 use Rattle.audit_check.specs.Booted.{boot_walked, are_left, Booted, behind_boot, booted_by, all_walked, unwalked, unbooted, journal_walked}
-use Rattle.audit_check.specs.Tracks.{events, kept_of, Knows}
+use Rattle.audit_check.specs.Tracks.{events, Knows}
 use Rattle.audit_check.proofs.FittingLaws.{capped_is}
 use Rattle.audit_laws.specs.Right.{AreAround}
-use Rattle.audit_laws.specs.Expected.{Events, times_in, all_times, AreExpected, lines_in, first_lines, IsExpected}
+use Rattle.audit_laws.specs.Expected.{all_times, AreExpected, lines_in, first_lines, IsExpected}
 use Rattle.audit_laws.specs.Followed.{followed_by, followed, told}
 use Rattle.audit_laws.proofs.JournalLaws.{length_events, lines_hold, lines_end, lines_few}
 

@@ -1,10 +1,10 @@
 -- Attempts one after another go along the rules, and so does a whole boot.
-use Rattle.std.proofs.Common.{◌≡◌, ℕ, zero, suc, List, [], ◌∷◌, length, Option, Some, None, slice_get, Ok, Err, refl, sym, ap, ◌∙◌, subst}
+use Rattle.std.proofs.Common.{◌≡◌, ℕ, zero, suc, List, length, Option, Some, None, slice_get, Ok, Err, refl, sym, subst}
 use Rattle.task_ast.specs.declared.core_form.CoreTask.{CoreTask}
 use Rattle.task_ast.specs.declared.core_form.Core.{Core}
 use Rattle.task_ast.specs.WellFormed.{IsWellFormed}
 use Rattle.devices.specs.declared.world.World.{World}
-use Rattle.task_attempts.specs.State.{Rules, Setting, Standing, Here, Rest}
+use Rattle.task_attempts.specs.State.{Rules, Standing, Here, Rest}
 use Rattle.task_attempts.specs.Attempts.{attempt_log}
 use Rattle.task_attempts.specs.Boots as rules
 use Rattle.task_attempts.specs.Boots.{rules_of, task_of, attempts_log, booted}

@@ -1,5 +1,5 @@
 -- The test of a run's end is what is asked of it.
-use Rattle.std.proofs.Common.{◌≡◌, ℕ, zero, suc, ◌-◌, ◌<◌, ◌≤◌, Bool, true, false, ◌&&◌, ◌||◌, not, nat_lt, nat_le, ◌==◌, List, [], ◌∷◌, length, take, map, Option, Some, None, slice_get, refl, sym, ap, ◌∙◌, subst, arith}
+use Rattle.std.proofs.Common.{◌≡◌, ℕ, suc, ◌-◌, ◌<◌, ◌≤◌, Bool, true, false, ◌&&◌, ◌||◌, not, nat_lt, nat_le, ◌==◌, List, [], ◌∷◌, length, take, map, Option, Some, None, slice_get, refl, sym, ap, ◌∙◌, subst, arith}
 use Rattle.std.proofs.lemmas.Bool.{false≢true}
 use Rattle.std.proofs.lemmas.Bool.Decides.{nat_tests}
 use Rattle.std.specs.List.{AllByRecursion}
@@ -189,8 +189,7 @@ end_holds rows bs steps Power h =
 end_holds rows bs steps (Trapped code) h = last_holds (passes_last steps code) (TrapsAt steps code) boot_of (trap_holds steps code) bs (sym (last_by steps code (last_of bs)) ∙ h)
 end_holds rows bs steps Halted h =
     let one = both (told_last 1 bs == 0) (is_before steps (last_of bs) && nat_le steps (steps_of (take (length bs) rows))) h in
-    let two = both (is_before steps (last_of bs)) (nat_le steps (steps_of (take (length bs) rows))) one.1 in
-    (
+    let two = both (is_before steps (last_of bs)) (nat_le steps (steps_of (take (length bs) rows))) one.1 in (
       sym (all_is bs 1) ∙ are_equal (told_last 1 bs) 0 one.0,
       last_holds (passes_before steps) (ComesBefore steps) boot_of (boot_before steps) bs (sym (before_by steps (last_of bs)) ∙ two.0),
       subst (λ k. steps ≤ steps_of (take k rows)) (sym (length_boots bs)) (is_within steps (steps_of (take (length bs) rows)) two.1),

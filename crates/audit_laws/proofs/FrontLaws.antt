@@ -1,10 +1,7 @@
 -- How many first lines of a report are right, and the answer by their number.
-use Rattle.std.proofs.Common.{◌≡◌, ◌⊎◌, inl, inr, ℕ, zero, suc, ◌+◌, ◌-◌, ◌<◌, ◌≤◌, Bool, true, false, cond, ltb, ◌==◌, IfSome, Option, Some, None, List, [], ◌∷◌, ◌++◌, length, take, refl, sym, ap, ◌∙◌, subst, arith, take-take, take_all, append-nil}
+use Rattle.std.proofs.Common.{◌≡◌, ℕ, zero, suc, ◌+◌, ◌-◌, ◌<◌, ◌≤◌, Bool, true, false, cond, ltb, ◌==◌, IfSome, Option, Some, None, List, [], ◌∷◌, ◌++◌, length, take, refl, sym, ap, ◌∙◌, subst, arith, take-take, take_all, append-nil}
 use Rattle.std.proofs.lemmas.Bool.{false≢true}
 use Rattle.std.proofs.lemmas.Bool.Decides.{nat_tests}
-use Rattle.std.specs.List.{position}
-use Rattle.ease_base.specs.declared.place.Peripheral.{Peripheral}
-use Rattle.task_ast.specs.declared.core_form.Array.{Array}
 use Rattle.task_ast.specs.declared.core_form.Core.{Core}
 use Rattle.devices.specs.declared.world.World.{World}
 use Rattle.devices.specs.declared.event.RunEnd.{RunEnd}
@@ -19,7 +16,7 @@ use Rattle.audit_check.specs.Journal.{boots_of}
 use Rattle.audit_check.specs.Lines.{lines_of, front, Reaches}
 use Rattle.audit_check.specs.Allowed.{IsAllowed}
 use Rattle.audit_check.specs.Ended.{EndFits, end_fits}
-use Rattle.audit_laws.specs.Answers.{BootsAreNamed, end_told, IsFront, IsFirstWrong, Answer, legal, illegal, no_report, IsAnswerOn, IsAnswer}
+use Rattle.audit_laws.specs.Answers.{end_told, IsFront, Answer, legal, illegal, no_report, IsAnswerOn, IsAnswer}
 use Rattle.audit_laws.specs.Gathered.{Gathered, gathered, end_lines, ends_well, right_lines}
 use Rattle.audit_laws.specs.Verdict.{Fronts, answer_by}
 use Rattle.audit_laws.proofs.EndLaws.{end_holds, end_shown}
@@ -48,8 +45,8 @@ whole_front (b ∷ boots) (suc n) long =
     λ i. record { begun_at = b.begun_at; events = take_all n b.events (omega (arith, long)) i } ∷ whole_front boots (n - length b.events) (omega (arith, long)) i
 
 module _ (world : World) (c : Core) (given : (e : JournalEvent) → IsOf c e → event_in c (event_told (style_of c) e) ≡ Some e)
-  (back : (t : LineText) (e : JournalEvent) → IsText t → event_in c t ≡ Some e → event_told (style_of c) e ≡ t) (whose : (t : LineText) (e : JournalEvent) → event_in c t ≡ Some e → IsOf c e)
-  (lines : List ReportLine) (are : AreLines false lines) where
+    (back : (t : LineText) (e : JournalEvent) → IsText t → event_in c t ≡ Some e → event_told (style_of c) e ≡ t) (whose : (t : LineText) (e : JournalEvent) → event_in c t ≡ Some e → IsOf c e)
+    (lines : List ReportLine) (are : AreLines false lines) where
   abbrev G : Gathered
   G = gathered c false 1 lines
 

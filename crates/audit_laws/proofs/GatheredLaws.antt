@@ -1,10 +1,9 @@
 -- What is gathered from lines is what they tell, and no more of them tells a journal.
-use Rattle.std.proofs.Common.{◌≡◌, ℕ, zero, suc, ◌+◌, ◌-◌, ◌<◌, ◌≤◌, Bool, true, false, cond, ◌==◌, Option, Some, None, List, [], ◌∷◌, ◌++◌, length, take, map, refl, sym, ap, ◌∙◌, subst, append_assoc, arith, not-suc-le-zero, le_of_suc-le-suc}
-use Rattle.std.proofs.lemmas.Bool.{false≢true, true≢false}
+use Rattle.std.proofs.Common.{◌≡◌, ℕ, zero, suc, ◌+◌, ◌-◌, ◌≤◌, Bool, true, false, cond, ◌==◌, Option, Some, None, List, [], ◌∷◌, ◌++◌, length, take, refl, sym, ap, ◌∙◌, append_assoc, arith, not-suc-le-zero, le_of_suc-le-suc}
+use Rattle.std.proofs.lemmas.Bool.{true≢false}
 use Rattle.std.proofs.lemmas.Bool.Decides.{nat_tests}
-use Rattle.std.proofs.lemmas.List.{take-map, length-map}
+use Rattle.std.proofs.lemmas.List.{take-map}
 use Rattle.std.specs.Prelude.{⊤}
-use Rattle.std.specs.List.{AllByRecursion}
 use Rattle.task_ast.specs.declared.core_form.Core.{Core}
 use Rattle.devices.specs.declared.event.RunEnd.{RunEnd}
 use Rattle.devices.specs.Journal.{JournalEvent, begins, looks, keeps, drops, issues, seals, copies, commits, traps, Boot}
@@ -13,9 +12,9 @@ use Rattle.report_text.specs.declared.line.LineText.{LineText}
 use Rattle.report_text.specs.declared.line.LineText.TheVariants as line
 use Rattle.report_text.specs.declared.line.ReportLine.{ReportLine}
 use Rattle.report_text.specs.Events.{style_of, event_in, IsOf}
-use Rattle.report_text.specs.Grammar.{IsText, IsLine, is_end, AreLines}
+use Rattle.report_text.specs.Grammar.{IsText, is_end, AreLines}
 use Rattle.report_text.specs.Written.{event_told, line_told, events_told, boots_told}
-use Rattle.audit_check.specs.Lines.{lines_of, shortened, front}
+use Rattle.audit_check.specs.Lines.{lines_of, front}
 use Rattle.audit_laws.specs.Answers.{AreNamed, BootsAreNamed, end_told}
 use Rattle.audit_laws.specs.Gathered.{Item, a_boot, an_event, an_end, nothing, event_or_none, item_in, Gathered, no_more, with_event, with_boot, with_end, gathered_by, gathered, end_lines}
 

@@ -1,18 +1,17 @@
 -- The lines that a walk goes along are those that the rules allow, and no more.
-use Rattle.std.proofs.Common.{◌≡◌, ℕ, zero, suc, ◌+◌, ◌-◌, ◌<◌, ◌≤◌, Bool, true, false, nat_le, List, [], ◌∷◌, ◌++◌, length, take, drop, map, flat_map, refl, sym, ap, ◌∙◌, subst, arith, not-suc-le-zero, le_of_suc-le-suc, length-take-le, length-drop, take_all}
+use Rattle.std.proofs.Common.{◌≡◌, ℕ, zero, suc, ◌+◌, ◌-◌, ◌<◌, ◌≤◌, Bool, true, false, nat_le, List, [], ◌∷◌, ◌++◌, length, take, drop, map, refl, sym, ap, ◌∙◌, subst, arith, not-suc-le-zero, length-take-le, length-drop, take_all}
 use Rattle.std.proofs.lemmas.Bool.Decides.{nat_tests}
 use Rattle.task_ast.specs.declared.core_form.Core.{Core}
 use Rattle.task_ast.specs.WellFormed.{IsWellFormed}
 use Rattle.devices.specs.declared.world.World.{World}
-use Rattle.devices.specs.declared.world.Feed.{Feed}
 use Rattle.devices.specs.Journal.{JournalEvent}
-use Rattle.task_attempts.specs.State.{Rules, Standing, Log}
+use Rattle.task_attempts.specs.State.{Rules, Standing}
 use Rattle.task_attempts.specs.Boots.{rules_of, attempts_log, booted, boot_log, after, cut_boot, left_by, boots_from, events_in}
 use Rattle.task_attempts.proofs.AttemptLaws.{longer_boot}
 use Rattle.audit_check.specs.declared.around.Around.{Around}
 use Rattle.audit_check.specs.declared.journal.TimedEvent.{TimedEvent}
 use Rattle.audit_check.specs.declared.journal.ReportBoot.{ReportBoot}
-use Rattle.audit_check.specs.Leads.{Awaited, Reached, relooked, Differs}
+use Rattle.audit_check.specs.Leads.{Awaited, Reached, relooked}
 use Rattle.audit_check.specs.Walking.{Walking}
 use Rattle.audit_check.specs.Booted.{boot_walked}
 use Rattle.audit_check.specs.Tracks.{events, Knows, from_here}
@@ -20,7 +19,7 @@ use Rattle.audit_laws.specs.Right.{AreAround}
 use Rattle.audit_laws.specs.Stops.{Stops}
 use Rattle.audit_laws.specs.Expected.{Events, times_in, all_times, AreExpected, lines_in, first_lines}
 use Rattle.audit_laws.specs.Followed.{followed_by, followed, told}
-use Rattle.audit_laws.proofs.LogLaws.{awaited, Behind, shows_first, behind_them, differs_behind}
+use Rattle.audit_laws.proofs.LogLaws.{shows_first, behind_them, differs_behind}
 use Rattle.audit_laws.proofs.BootWalks.{boot_tracks}
 
 -- ---- lists
@@ -122,9 +121,9 @@ module _ (world : World) (c : Core) (tasks : List Around) (well : IsWellFormed c
         knows = behind.ends.1;
         heads = λ k others le. ap events_in (cut k (times_in (take k es) ++ others) (omega (arith, le, few))) ∙ shows_first at.0 es s f (Stops world.feeds v) at.1 k le others;
         leads = λ others. let times = times_in (take at.0 es) ++ others in
-        ap (after (relooked times s)) (sym (cut_is R n at.0 s times few)) ∙ behind.leaves others;
+            ap (after (relooked times s)) (sym (cut_is R n at.0 s times few)) ∙ behind.leaves others;
         ends = λ k others more le is. differs_behind at.0 es s f (Stops world.feeds v) at.1 (λ es s f at. at.2) k more (omega (arith, le, long)) others
-        (sym (ap events_in (cut k (times_in (take k es) ++ others) le)) ∙ is);
+            (sym (ap events_in (cut k (times_in (take k es) ++ others) le)) ∙ is);
       }
 
   -- how many events are left

@@ -1,4 +1,5 @@
 mod AllowedLaws
+mod BootRows
 mod BootWalks
 mod EndLaws
 mod FrontLaws

@@ -1,5 +1,5 @@
 -- Events that lead along a log are its first, whatever looks come behind them; and where they part from it they aren't.
-use Rattle.std.proofs.Common.{◌≡◌, ℕ, zero, suc, ◌<◌, ◌≤◌, List, [], ◌∷◌, ◌++◌, length, take, drop, flat_map, Option, Some, None, refl, sym, ap, ◌∙◌, subst, append_assoc, arith, not-suc-le-zero, le_of_suc-le-suc}
+use Rattle.std.proofs.Common.{◌≡◌, ℕ, zero, suc, ◌<◌, ◌≤◌, List, [], ◌∷◌, ◌++◌, length, take, drop, Option, Some, None, refl, sym, ap, ◌∙◌, append_assoc, arith, not-suc-le-zero, le_of_suc-le-suc}
 use Rattle.devices.specs.Journal.{JournalEvent}
 use Rattle.task_attempts.specs.State.{Standing, Logged, Log}
 use Rattle.task_attempts.specs.Boots.{after, events_in}

@@ -1,5 +1,5 @@
 -- The event that a text tells is the program's: its peripheral and its arrays are there.
-use Rattle.std.proofs.Common.{◌≡◌, ◌⊎◌, inl, inr, ℕ, zero, suc, ◌<◌, ◌≤◌, Bool, true, false, cond, nat_lt, Option, Some, None, List, [], ◌∷◌, length, take, map, refl, sym, ap, ◌∙◌, subst, arith, not-suc-le-zero, le_of_suc-le-suc}
+use Rattle.std.proofs.Common.{◌≡◌, ◌⊎◌, inl, inr, ℕ, zero, suc, ◌<◌, ◌≤◌, Bool, true, false, cond, nat_lt, Option, Some, None, List, [], ◌∷◌, length, take, map, refl, subst, arith, not-suc-le-zero, le_of_suc-le-suc}
 use Rattle.std.specs.Prelude.{All, IsTrue}
 use Rattle.std.specs.List.{AllByRecursion, position_or_len}
 use Rattle.std.specs.Str.{bytes_eq}
@@ -11,7 +11,6 @@ use Rattle.task_ast.specs.declared.core_form.Core.{Core}
 use Rattle.task_ast.specs.NameToken.{is_name}
 use Rattle.task_ast.specs.WellFormed.{IsCoreArray, IsCorePeripheral, IsWellFormed}
 use Rattle.word_isa.specs.declared.parts.Symbol.{Symbol}
-use Rattle.devices.specs.declared.event.Args.{Args}
 use Rattle.devices.specs.Journal.{Place, cell, keep, address, JournalEvent, begins, looks, keeps, drops, issues, seals, copies, commits, traps, arguments_of}
 use Rattle.report_text.specs.Events.{style_of, symbol_of, peripheral_named, array_named, place_named, event_in, HasNumber, IsOf}
 use Rattle.report_text.specs.Reading.{◌>>=◌}

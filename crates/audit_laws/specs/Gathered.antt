@@ -1,5 +1,5 @@
 -- How boots and an end are gathered from the lines of a report, line by line.
-use Rattle.std.specs.Prelude.{◌≡◌, ⊤, ℕ, suc, ◌+◌, ◌==◌, Bool, true, false, cond, if◌then◌else◌, Option, Some, None, List, [], ◌∷◌}
+use Rattle.std.specs.Prelude.{ℕ, suc, ◌+◌, ◌==◌, Bool, true, cond, if◌then◌else◌, Option, Some, None, List, [], ◌∷◌}
 use Rattle.task_ast.specs.declared.core_form.Core.{Core}
 use Rattle.devices.specs.declared.event.RunEnd.{RunEnd}
 use Rattle.devices.specs.Journal.{JournalEvent, Boot}
