@@ -1,9 +1,9 @@
 mod AllowedRows
-mod AttemptWalks
+pub mod AttemptWalks
 mod CopyLaws
-mod FittingLaws
-mod LeafLaws
-mod SameLaws
-mod TrackLaws
-mod WalkLaws
+pub mod FittingLaws
+pub mod LeafLaws
+pub mod SameLaws
+pub mod TrackLaws
+pub mod WalkLaws
 mod WalkLemmas

@@ -50,7 +50,7 @@ no_other e x f first differs times is =
     let both : Some e ≡ Some x = sym (first (look_time x ++ times)) ∙ is in
     false≢true (sym differs ∙ is_same x e (sym (some_is e x both)))
 
-ended : (es : List JournalEvent) → Differs es (λ times. [])
+pub ended : (es : List JournalEvent) → Differs es (λ times. [])
 ended [] = tt
 ended (e ∷ es) = λ times none. no_event e none
 

@@ -1,4 +1,6 @@
 pub mod Allowed
+pub mod Booted
+pub mod Ended
 pub mod Fitting
 pub mod Fits
 pub mod Journal

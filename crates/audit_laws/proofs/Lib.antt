@@ -1,0 +1,10 @@
+mod AllowedLaws
+mod BootRows
+mod BootWalks
+mod EndLaws
+mod FrontLaws
+mod GatheredLaws
+mod JournalLaws
+mod LogLaws
+mod SiteLaws
+mod TextLaws
