@@ -4,6 +4,8 @@
 mod answer;
 mod events;
 mod lines;
+mod tasks;
 
 pub use answer::{Verdict, judge, line_count};
 pub use lines::{Told, gather};
+pub use tasks::{arounds, tables};
