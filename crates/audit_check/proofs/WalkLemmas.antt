@@ -1,5 +1,5 @@
 -- What the methods of a walk need: sites by their places, and looks that lie behind a record's.
-use Rattle.std.proofs.Common.{◌≡◌, ℕ, zero, suc, ◌+◌, ◌-◌, ◌<◌, cond, List, [], ◌∷◌, Some, ◌++◌, length, drop, get_or, Err, slice_get, refl, sym, ap, ◌∙◌, arith}
+use Rattle.std.proofs.Common.{◌≡◌, ℕ, zero, suc, ◌+◌, ◌-◌, ◌<◌, Bool, cond, List, [], ◌∷◌, Some, ◌++◌, length, drop, get_or, Err, slice_get, refl, sym, ap, ◌∙◌, arith}
 use Rattle.std.proofs.lemmas.List.{at_drop_more}
 use Rattle.std.proofs.lemmas.Bool.Decides.{nat_tests}
 use Rattle.task_ast.specs.declared.tree.Ann.{Ann}
@@ -8,7 +8,7 @@ use Rattle.task_ast.specs.declared.core_form.Site.{Site}
 use Rattle.task_ast.specs.declared.core_form.CoreExpr.{CoreExpr}
 use Rattle.audit_check.specs.declared.walking.Stop.{Stop}
 use Rattle.audit_check.specs.declared.walking.Stop.TheVariants.{Parted, NoMemory}
-use Rattle.audit_check.specs.Walking.{Walking, Way, Gives, chain, word, words_behind}
+use Rattle.audit_check.specs.Walking.{Walking, Way, Gives, chain, word, words_behind, dropped_if, dropped_from}
 use Rattle.io_annot.specs.declared.choice.Mode.{Mode}
 use Rattle.io_annot.specs.declared.choice.Mode.TheVariants as mode
 use Rattle.io_annot.specs.declared.choice.Choice.{Choice}
@@ -49,3 +49,11 @@ words_break whole words all i e w v Parted within is so_far stops =
     sym so_far ∙ at_drop_more (λ es. words_behind words es w) all i e within ∙ ap (λ x. words_behind words (x ∷ drop (i + 1) all) w) (sym is)
     ∙ ap (λ way. chain way (λ x w. words_behind (words ++ x ∷ []) (drop (i + 1) all) w)) stops
 words_break whole words all i e w v NoMemory within is so_far stops = tt
+
+-- ---- sites that drop their records
+
+pub drops_step : (wanted : ℕ → Bool) (k before sites : ℕ) (w : Walking) → before < sites
+    → dropped_from wanted k (sites - before) w ≡ chain (dropped_if (wanted k) k w) (λ _ w. dropped_from wanted (k + 1) (sites - (before + 1)) w)
+drops_step wanted k before sites w more =
+    let left : sites - before ≡ suc (sites - (before + 1)) = omega arith in
+    ap (λ n. dropped_from wanted k n w) left

@@ -1,6 +1,6 @@
 -- When a run may end as a journal says (docs/ATTEMPTS.md, "What a right journal is"), and the test of that.
-use Rattle.std.specs.Prelude.{◌≡◌, ℕ, ◌-◌, ◌<◌, ◌≤◌, Bool, true, false, ◌&&◌, not, ◌==◌, nat_lt, nat_le, List, [], ◌∷◌, length, take, Option, Some, None, slice_get}
-use Rattle.std.specs.List.{AllByRecursion}
+use Rattle.std.specs.Prelude.{◌≡◌, ℕ, ◌-◌, ◌<◌, ◌≤◌, Bool, false, ◌&&◌, not, ◌==◌, nat_lt, nat_le, List, [], ◌∷◌, length, take, Option, Some, None, slice_get}
+use Rattle.std.specs.List.{AllByRecursion, list_all}
 use Rattle.devices.specs.declared.world.PowerRow.{PowerRow}
 use Rattle.devices.specs.declared.event.RunEnd.{RunEnd}
 use Rattle.devices.specs.declared.event.RunEnd.TheVariants.{Halted, Trapped, Power}
@@ -67,12 +67,10 @@ told_last next (b ∷ bs) = told_last (told_behind next b.events) bs
 
 -- whether no event traps, and none of any boot
 abbrev pub none_traps : List TimedEvent → Bool
-none_traps [] = true
-none_traps (e ∷ es) = not (traps_here e.event) && none_traps es
+none_traps es = list_all (λ (e : TimedEvent). not (traps_here e.event)) es
 
 abbrev pub nothing_traps : List ReportBoot → Bool
-nothing_traps [] = true
-nothing_traps (b ∷ bs) = none_traps b.events && nothing_traps bs
+nothing_traps bs = list_all (λ (b : ReportBoot). none_traps b.events) bs
 
 -- whether an event, and the last event of a boot, is this trap at this step
 abbrev pub is_trap_at : (steps code : ℕ) → Option TimedEvent → Bool
@@ -85,8 +83,7 @@ traps_last steps code (Some b) = is_trap_at steps code (last_of b.events)
 
 -- whether events, and a boot with its events, come before this step
 abbrev pub are_before : (steps : ℕ) → List TimedEvent → Bool
-are_before steps [] = true
-are_before steps (e ∷ es) = nat_lt e.step steps && are_before steps es
+are_before steps es = list_all (λ (e : TimedEvent). nat_lt e.step steps) es
 
 abbrev pub is_before : (steps : ℕ) → Option ReportBoot → Bool
 is_before steps None = false

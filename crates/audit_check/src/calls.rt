@@ -1,10 +1,11 @@
 //! The walk of calls and of blocks' ends.
-ghost use Rattle.std.specs.Prelude.{◌≡◌, []};
+ghost use Rattle.std.specs.Prelude.{◌≡◌, [], length};
+ghost use Rattle.io_depend.specs.Told.{tells_later};
 ghost use Rattle.audit_check.specs.Walked as steps;
 ghost use Rattle.audit_check.specs.Walking as spec;
 ghost use Rattle.audit_check.specs.Walking.{Gives};
 
-use crate::around::{Around, annotation_at, decide_at, enter_at};
+use crate::around::{Around, annotation_at, decide_at, enter_at, number_at};
 use crate::walking::{Kept, Stop, Walking};
 use ease_base::{List, Words};
 use io_annot::{Choice, Mode};
@@ -154,6 +155,92 @@ impl<'a> Walking<'a> {
             self.stamp_at(site),
             t,
         )
+    }
+
+    // The sites that depend on a site drop their records, one after another. No task has so many sites that they can't be
+    // counted.
+    #[tactic(auto, using(crate::proofs::WalkLemmas::drops_step))]
+    fn drop_dependents(&mut self, around: &Around, site: u32) -> Result<(), Stop>
+        ensures { Gives (spec.dropped_from (tells_later around.now.depends.now site) 1 (length around.now.task.now.sites) self.old) result self.new }
+    {
+        let Ok(sites) = u32::try_from(around.task.sites.len()) else {
+            return Err(Stop::NoMemory);
+        };
+        'sites: for before in 0..sites {
+            let wanted = around.depends.later(site, before + 1);
+            self.drop_if(wanted, before + 1)?;
+        }
+        Ok(())
+    }
+
+    // A site and its dependents drop their records; it is issued, and its record sealed.
+    #[tactic(auto, unfolding(crate::specs::Walked::issued_anew))]
+    fn issue_anew(
+        &mut self,
+        around: &Around,
+        site: u32,
+        p: u32,
+        args: &[u32],
+        t: u32,
+    ) -> Result<u32, Stop>
+        ensures { Gives (steps.issued_anew around.now site p args.now t self.old) result self.new }
+    {
+        self.drop_record(site)?;
+        self.drop_dependents(around, site)?;
+        let reading = self.issue(site, p, args)?;
+        self.seal(site, Kept::Reading(reading, t))?;
+        Ok(reading)
+    }
+
+    // It keeps a value, or issues.
+    #[tactic(auto, unfolding(crate::specs::Walked::read_by))]
+    fn read_by(
+        &mut self,
+        around: &Around,
+        site: u32,
+        p: u32,
+        args: &[u32],
+        t: u32,
+        choice: Choice,
+    ) -> Result<u32, Stop>
+        ensures { Gives (steps.read_by around.now site p args.now t choice self.old) result self.new }
+    {
+        match choice {
+            Choice::Keep(value) => {
+                self.take_kept(site, value)?;
+                Ok(value)
+            }
+            Choice::Issue => self.issue_anew(around, site, p, args, t),
+        }
+    }
+
+    /// Does a call.
+    #[tactic(auto, unfolding(crate::specs::Walked::call_walked))]
+    pub fn call(
+        &mut self,
+        alloc: Global,
+        around: &Around,
+        site: u32,
+        onto: &Option<CoreTarget>,
+        p: u32,
+        args: &[CoreExpr],
+    ) -> Result<(), Stop>
+        ensures { Gives (steps.call_walked around.now site onto.now p args.now self.old) result self.new }
+    {
+        let at = self.reading_target(onto)?;
+        let words = self.words(alloc, args)?;
+        let t = self.look(site)?;
+        let choice = self.choice(around, site, t);
+        let reading = self.read_by(
+            around,
+            site,
+            number_at(around, p),
+            words.as_slice(),
+            t,
+            choice,
+        )?;
+        self.put_reading(at, reading);
+        Ok(())
     }
 
     // Seals a block that didn't keep.
