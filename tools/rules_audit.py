@@ -10,6 +10,10 @@ from rules_report import Line, NoReport, read_report
 from rules_world import World
 
 
+# the status of `ease audit` by the first word of its line
+STATUSES = {"legal": 0, "illegal": 13, "report": 12}
+
+
 class Illegal(Exception):
     """No journal that the rules allow begins with the lines up to this one, in whose place the rules may give an event."""
 

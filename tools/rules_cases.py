@@ -164,14 +164,28 @@ KEPT = (
 )
 
 
+TRAPS = "nv word a[2]; word *p; task t { DMA(p, a, 1); STOP; }"
+BARE = "[[power]]\non = 100\n"
+OUTAGE = "[[power]]\non = 5\noff = 30\n[[power]]\non = 100\n[readings]\nradio = [1]\n"
+TRAPPED = "0 boot 1 / 1 begin 1 / 9 trap 3 / 9 end trapped 3"
+UP = MOVE % "&a[1], a"
+MOVED = "0 boot 1 / 1 begin 1 / 2 copy 1 a[0] a[1] 5 / 3 seal 1 / 4 commit 0 / 5 end halted"
+
+
 class Audited(NamedTuple):
-    """A report of SEND, with what is put in place of some of its text, and the answer."""
+    """A report of a program, with what is put in place of some of its text, and the answer."""
 
     world: str
     report: str
     old: str
     new: str
     answer: str
+    source: str = SEND
+
+    def text(self) -> bytes:
+        """The bytes of the report."""
+        changed = self.report.replace(self.old, self.new) if self.old else self.report
+        return changed.replace(" / ", "\n").encode() + b"\n"
 
 
 AUDITED = [
@@ -213,4 +227,42 @@ AUDITED = [
     Audited(TWICE, KEPT, " / 5 boot 2 / 6 begin 1 / 7 look 1 6 / 8 kept 1 1", "", "illegal 7"),
     Audited(TWICE, KEPT, " / 6 begin 1 / 7 look 1 6 / 8 kept 1 1 / 9 commit 0 / 10 end halted", " / 105 end power", "legal"),
     Audited(TWICE, KEPT, "5 seal 1 / 5 boot 2", "5 boot 2", "illegal 9"),
+    Audited(TWICE, KEPT, "10 end halted", "105 end power", "legal"),
+    Audited(TWICE, KEPT, "10 end halted", "106 end halted", "illegal 12"),
+    Audited(TWICE, KEPT, "4 issue 1 radio 7 = 1 / 5 seal 1 / ", "", "illegal 8"),
+    Audited(TWICE, SHORT, "", "", "illegal 7"),
+    Audited(OUTAGE, KEPT, "look 1 6", "look 1 36", "legal"),
+    Audited(OUTAGE, KEPT, "look 1 6", "look 1 37", "illegal 9"),
+    Audited(OUTAGE, KEPT, "look 1 6 / 8 kept 1 1 / 9 commit 0", "look 1 36 / 8 drop 1 / 9 commit 0", "illegal 10"),
+    Audited(BARE, SHORT, "7 = 1", "7 = 0", "legal"),
+    Audited(BARE, SHORT, "", "", "illegal 5"),
+    Audited("", SHORT, "", "", "illegal 1"),
+    Audited("", "0 end power", "", "", "legal"),
+    Audited("", "1 end power", "", "", "illegal 1"),
+    Audited("", "0 end halted", "", "", "illegal 1"),
+    Audited(BARE, "0 end power", "", "", "illegal 1"),
+    Audited(WORLD, SHORT, "3 drop 1", "2 drop 1", "illegal 4"),
+    Audited(WORLD, SHORT, "1 begin 1", "0 begin 1", "illegal 2"),
+    Audited(WORLD, SHORT, "radio 7 = 1", "radio 7 8 = 1", "illegal 5"),
+    Audited(WORLD, SHORT, "radio 7", "radar 7", "illegal 5"),
+    Audited(WORLD, SHORT, "radio 7", "7radio 7", "report line 5"),
+    Audited(WORLD, SHORT, "7 end halted", "8 end halted ", "report line 8"),
+    Audited(WORLD, SHORT, "2 look 1 1", "2 look 1", "report line 3"),
+    Audited(WORLD, SHORT, "2 look 1 1", "2  look 1 1", "report line 3"),
+    Audited(BARE, TRAPPED, "", "", "legal", TRAPS),
+    Audited(BARE, TRAPPED, "9 trap 3", "9 trap 4", "illegal 3", TRAPS),
+    Audited(BARE, TRAPPED, "9 end trapped 3", "9 end trapped 4", "illegal 4", TRAPS),
+    Audited(BARE, TRAPPED, "9 end trapped 3", "10 end trapped 3", "illegal 4", TRAPS),
+    Audited(BARE, TRAPPED, "9 end trapped 3", "100 end power", "illegal 4", TRAPS),
+    Audited(BARE, TRAPPED, "9 end trapped 3", "10 begin 1 / 100 end power", "illegal 4", TRAPS),
+    Audited(BARE, TRAPPED, "9 trap 3 / 9 end trapped 3", "100 end power", "legal", TRAPS),
+    Audited(BARE * 2, TRAPPED, "9 end trapped 3", "100 boot 2 / 101 begin 1 / 109 trap 3 / 109 end trapped 3", "illegal 4", TRAPS),
+    Audited(BARE, MOVED, "", "", "legal", UP),
+    Audited(BARE, MOVED, "a[0] a[1]", "a[0] a[2]", "illegal 3", UP),
+    Audited(BARE, MOVED, "a[0] a[1]", "a[0] b[1]", "illegal 3", UP),
+    Audited(BARE, MOVED, "a[0] a[1]", "keep a[1]", "illegal 3", UP),
+    Audited(BARE, MOVED, "a[0] a[1]", "@65536 a[1]", "illegal 3", UP),
+    Audited(BARE, MOVED, "a[1] 5", "a[1] 4", "illegal 3", UP),
+    Audited(BARE, MOVED, "a[0] a[1]", "a[0] a[01]", "report line 3", UP),
+    Audited(BARE, MOVED, "3 seal 1", "3 kept 1 5", "illegal 4", UP),
 ]

@@ -17,17 +17,13 @@ from pathlib import Path
 
 from rules_attempts import Computer
 from rules_audit import Audit, audit
-from rules_cases import ALLOWED, AUDITED, CASES, FIRSTS, FORCES, NAMES, SEND, STATION, SUMS, Case
+from rules_cases import ALLOWED, AUDITED, CASES, FIRSTS, FORCES, NAMES, STATION, SUMS, Case
 from rules_core import Checked
 from rules_flow import checked
 from rules_journal import Given, journal
 from rules_judge import judge
 from rules_report import brief_text, read_report
 from rules_world import Row, World, read_world
-
-
-def lines_of(text: str) -> bytes:
-    return text.replace(" / ", "\n").encode() + b"\n"
 
 
 def played(case: Case) -> tuple[list[str], str]:
@@ -52,8 +48,7 @@ def fails(case: Case) -> str | None:
 def failing_cases() -> list[str]:
     found = [fault for case in CASES if (fault := fails(case))]
     for case in AUDITED:
-        report = lines_of(case.report.replace(case.old, case.new) if case.old else case.report)
-        answer = audit(checked(SEND.encode()), read_world(case.world), report)
+        answer = audit(checked(case.source.encode()), read_world(case.world), case.text())
         if answer != case.answer:
             found.append(f"{case.new!r} for {case.old!r}: {answer} for {case.answer}")
     return found

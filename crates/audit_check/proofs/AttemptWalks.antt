@@ -1,5 +1,5 @@
 -- Statements, exits and attempts go along the rules.
-use Rattle.std.proofs.Common.{◌≡◌, ℕ, zero, suc, ◌<◌, List, [], ◌∷◌, ◌++◌, length, Option, None, Result, Ok, Err, refl, ap, ◌∙◌, subst}
+use Rattle.std.proofs.Common.{◌≡◌, ℕ, zero, suc, ◌<◌, List, [], ◌∷◌, ◌++◌, length, Option, None, Result, Ok, Err, refl, sym, ap, ◌∙◌, subst}
 use Rattle.std.specs.List.{AllByRecursion}
 use Rattle.ease_base.specs.Found.{with_found}
 use Rattle.task_ast.specs.declared.core_form.CoreStmt.{CoreStmt, Row_of-CoreStmt, end_of-CoreStmt, more_of-CoreStmt}
@@ -23,11 +23,12 @@ use Rattle.task_attempts.specs.Told.{told, unless_trap}
 use Rattle.task_attempts.specs.Values.{branch, from_ran, plain_log}
 use Rattle.task_attempts.specs.Attempts as rules
 use Rattle.task_attempts.specs.Attempts.{statement_log, row_log, body_log, exit_log, commit, after_commit, begun_by, attempt_log}
+use Rattle.audit_check.specs.declared.journal.TimedEvent.{TimedEvent}
 use Rattle.audit_check.specs.declared.walking.Kept.{Kept}
 use Rattle.audit_check.specs.declared.around.Around.{Around}
-use Rattle.audit_check.specs.Leads.{Reached}
+use Rattle.audit_check.specs.Leads.{Reached, Awaited, Differs}
 use Rattle.audit_check.specs.Walking.{Walking, Way, moved, chain, taken, record_at, found, word, with_store}
-use Rattle.audit_check.specs.Walked.{setting_of, DropsRight, SitesRight, number_at, ran_walked, plain_walked, statement_walked, row_walked, body_walked, begun, none_kept, committed_by, commit_walked, begin_walked, exit_walked, attempt_walked}
+use Rattle.audit_check.specs.Walked.{setting_of, DropsRight, SitesRight, number_at, ran_walked, plain_worked, while_left, plain_walked, statement_walked, row_walked, body_walked, begun, none_kept, committed_by, commit_walked, begin_walked, exit_walked, attempt_walked}
 use Rattle.audit_check.specs.Tracks.{events, Knows, IsAt, from_here, Follows, Tracks}
 use Rattle.audit_check.proofs.TrackLaws.{at_once, told_tracks, trap_tracks, tracks_then}
 use Rattle.audit_check.proofs.WalkLaws.{found_there, then_at, call_tracks, block_tracks}
@@ -54,11 +55,24 @@ module _ (feeds : List Feed) where
       trap_tracks feeds why go (with_store store w) (changes.with_store store here) s
       (record { knows = knows_stored feeds w here.standing store w.rest at.knows; store = refl; mode = at.mode }) (knows_stored feeds w s store w.rest knows)
 
-  plain_tracks : (s : CoreStmt) → Tracks feeds (λ go. plain_log s (go tt)) (plain_walked s)
-  unfolding plain_walked
-  plain_tracks stmt w here s go at knows =
+  worked_tracks : (s : CoreStmt) → Tracks feeds (λ go. plain_log s (go tt)) (plain_worked s)
+  unfolding plain_worked
+  worked_tracks stmt w here s go at knows =
       subst (λ store. Reached (events w.rest) s (from_here (plain_log stmt (go tt)) here) (Follows feeds (ran_walked (plain_done stmt store) w) go)) at.store
       (ran_tracks (plain_done stmt here.store) go w (spent (plain_steps stmt here.store) here) s (record { knows = at.knows; store = at.store; mode = at.mode }) knows)
+
+  -- where no event is left it stops, and none is asked for
+  none_differs : (rest : List TimedEvent) (f : Awaited) → rest ≡ [] → Differs (events rest) f
+  none_differs rest f none = subst (λ (r : List TimedEvent). Differs (events r) f) (sym none) tt
+
+  left_tracks : (rest : List TimedEvent) (stmt : CoreStmt) (w : Walking) (here : Here) (s : Standing) (go : Unit {0} → Rest) → w.rest ≡ rest → IsAt feeds w here → Knows feeds w s
+      → Reached (events w.rest) s (from_here (plain_log stmt (go tt)) here) (Follows feeds (while_left rest w (plain_worked stmt w)) go)
+  left_tracks [] stmt w here s go is at knows = (0, (refl, knows, none_differs w.rest _ is))
+  left_tracks (e ∷ es) stmt w here s go is at knows = worked_tracks stmt w here s go at knows
+
+  plain_tracks : (s : CoreStmt) → Tracks feeds (λ go. plain_log s (go tt)) (plain_walked s)
+  unfolding plain_walked
+  plain_tracks stmt w here s go at knows = left_tracks w.rest stmt w here s go refl at knows
 
   -- ---- one of two ways
 

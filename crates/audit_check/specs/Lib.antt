@@ -2,10 +2,12 @@ pub mod Allowed
 pub mod Booted
 pub mod Ended
 pub mod Fitting
+pub mod Fit
 pub mod Fits
 pub mod Journal
 pub mod Leads
 pub mod Lines
+pub mod Records
 pub mod Same
 pub mod Tracks
 pub mod Walked

@@ -29,6 +29,7 @@ use Rattle.devices.specs.declared.world.World.{World}
 use Rattle.task_attempts.specs.State.{Setting}
 use Rattle.task_attempts.specs.Calls.{annotation_of, site_at, number_or_none}
 use Rattle.task_attempts.specs.Copies.{words_at, put_words, shown, memory_or_ram}
+use Rattle.audit_check.specs.declared.journal.TimedEvent.{TimedEvent}
 use Rattle.audit_check.specs.declared.walking.Kept.{Kept}
 use Rattle.audit_check.specs.declared.walking.Kept.TheVariants as kept
 use Rattle.audit_check.specs.declared.around.Around.{Around}
@@ -165,8 +166,16 @@ abbrev pub ran_walked : Ran → Walking → Way (Unit {0})
 ran_walked (done store) w = moved tt (with_store store w)
 ran_walked (trapped why store) w = Err (trapped_by why (with_store store w))
 
+unfoldable pub plain_worked : CoreStmt → Walking → Way (Unit {0})
+plain_worked s w = ran_walked (plain_done s w.store) w
+
+-- a step that tells no event, where events are left; where none is, it isn't worked out, since nothing behind it is asked
+abbrev pub while_left : List TimedEvent → Walking → Way (Unit {0}) → Way (Unit {0})
+while_left [] w way = Err w
+while_left (e ∷ es) w way = way
+
 unfoldable pub plain_walked : CoreStmt → Walking → Way (Unit {0})
-plain_walked s w = ran_walked (plain_done s w.store) w
+plain_walked s w = while_left w.rest w (plain_worked s w)
 
 abbrev mutual
   -- a statement

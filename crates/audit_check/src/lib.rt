@@ -1,17 +1,23 @@
-//! Whether a journal is one that the rules of attempts allow, and its first line where it isn't. Here are two parts: whether its
-//! steps and looks fit the world; and the walk beside the rules by single events, with laws up to whole
-//! attempts. The code of copies, statements and attempts isn't here yet, nor are boots.
+//! Whether a journal is one that the rules of attempts allow, and its first line where it isn't. Here are two parts: how many of
+//! its first lines have steps and looks that fit the world; and how many go along the rules, by a walk of its boots beside
+//! them, with laws up to whole attempts.
 #![tactic(auto)]
 
 mod around;
+mod attempts;
+mod boots;
 mod calls;
+mod copies;
 mod fitting;
 mod journal;
 mod laws;
+mod ranges;
 mod same;
+mod statements;
 mod walking;
 
-pub use around::{Around, annotation_at, decide_at, enter_at, memory_at, number_at};
+pub use around::Around;
+pub use boots::lines_along;
 pub use fitting::fitting_lines;
 pub use journal::{ReportBoot, ReportEvent, ReportPlace, TimedEvent};
 pub use laws::{
@@ -20,4 +26,3 @@ pub use laws::{
     a_word_goes_along, an_attempt_goes_along, an_exit_goes_along, an_issue_goes_along,
     drops_go_along,
 };
-pub use walking::{Kept, Stop, Walking};

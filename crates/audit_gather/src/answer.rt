@@ -16,7 +16,7 @@ use ease_base::NoMemory;
 pub enum Verdict {
     Legal,
     /// The first line, from 1, with which the lines are no journal that is allowed.
-    Illegal(u64),
+    Illegal(u32),
 }
 
 /// How many lines boots have. No report that is read has so many that they can't be counted.
@@ -66,13 +66,14 @@ pub fn judge(
     well: bool,
     lines: u32,
 ) -> Verdict
-    requires { allowed ≤ all }
+    requires all { allowed ≤ all }
+    requires lines { right_lines allowed all ending (λ _. well) ≤ lines }
     ensures { (fits : ℕ × RunEnd → Bool) → IfSome ending (λ e. fits e ≡ well) → answer_of result ≡ answer_by (right_lines allowed all ending fits) lines }
 {
     let right = right_lines(allowed, all, ending, well);
     if right == u64::from(lines) {
         Verdict::Legal
     } else {
-        Verdict::Illegal(right + 1)
+        Verdict::Illegal((right + 1) as u32)
     }
 }

@@ -21,7 +21,7 @@ use Rattle.audit_check.specs.declared.journal.ReportEvent.TheVariants.{Begin, Lo
 use Rattle.audit_check.specs.declared.journal.TimedEvent.{TimedEvent}
 use Rattle.audit_check.specs.declared.journal.ReportBoot.{ReportBoot}
 use Rattle.audit_check.specs.Walking.{taken, looked, dropped, dropped_if, sealed, issued_now, trapped_by, word, reading_target, put_reading}
-use Rattle.audit_check.specs.Walked.{issued_anew, read_by, call_walked, plain_walked, commit_walked, begin_walked, exit_walked, attempt_walked}
+use Rattle.audit_check.specs.Walked.{issued_anew, read_by, call_walked, plain_walked, plain_worked, commit_walked, begin_walked, exit_walked, attempt_walked}
 use Rattle.audit_check.specs.Booted.{boot_walked, journal_walked}
 use Rattle.audit_check.specs.Ended.{end_fits}
 use denote.Hole.Carrier.{hidden}
@@ -84,23 +84,23 @@ unfoldable lines : List ReportBoot → ℕ
 lines boots = (journal_walked tasks program feeds boots).lines
 
 all_of_it : lines (one_boot 1) ≡ 7
-unfolding hidden-the_row-CoreExpr-0 shape-the_row-CoreExpr-0 hidden lines tasks task program values_in reading taken looked dropped dropped_if sealed issued_now trapped_by word reading_target put_reading issued_anew read_by call_walked plain_walked commit_walked begin_walked exit_walked attempt_walked boot_walked
+unfolding hidden-the_row-CoreExpr-0 shape-the_row-CoreExpr-0 hidden lines tasks task program values_in reading taken looked dropped dropped_if sealed issued_now trapped_by word reading_target put_reading issued_anew read_by call_walked plain_walked plain_worked commit_walked begin_walked exit_walked attempt_walked boot_walked
 all_of_it = refl
 
 another_reading : lines (one_boot 2) ≡ 4
-unfolding hidden-the_row-CoreExpr-0 shape-the_row-CoreExpr-0 hidden lines tasks task program values_in reading taken looked dropped dropped_if sealed issued_now trapped_by word reading_target put_reading issued_anew read_by call_walked plain_walked commit_walked begin_walked exit_walked attempt_walked boot_walked
+unfolding hidden-the_row-CoreExpr-0 shape-the_row-CoreExpr-0 hidden lines tasks task program values_in reading taken looked dropped dropped_if sealed issued_now trapped_by word reading_target put_reading issued_anew read_by call_walked plain_walked plain_worked commit_walked begin_walked exit_walked attempt_walked boot_walked
 another_reading = refl
 
 drop_left_out : lines no_drop ≡ 3
-unfolding hidden-the_row-CoreExpr-0 shape-the_row-CoreExpr-0 hidden lines tasks task program values_in reading taken looked dropped dropped_if sealed issued_now trapped_by word reading_target put_reading issued_anew read_by call_walked plain_walked commit_walked begin_walked exit_walked attempt_walked boot_walked
+unfolding hidden-the_row-CoreExpr-0 shape-the_row-CoreExpr-0 hidden lines tasks task program values_in reading taken looked dropped dropped_if sealed issued_now trapped_by word reading_target put_reading issued_anew read_by call_walked plain_walked plain_worked commit_walked begin_walked exit_walked attempt_walked boot_walked
 drop_left_out = refl
 
 second_keeps : lines (two_boots (Kept 1 1)) ≡ 11
-unfolding hidden-the_row-CoreExpr-0 shape-the_row-CoreExpr-0 hidden lines tasks task program values_in reading taken looked dropped dropped_if sealed issued_now trapped_by word reading_target put_reading issued_anew read_by call_walked plain_walked commit_walked begin_walked exit_walked attempt_walked boot_walked
+unfolding hidden-the_row-CoreExpr-0 shape-the_row-CoreExpr-0 hidden lines tasks task program values_in reading taken looked dropped dropped_if sealed issued_now trapped_by word reading_target put_reading issued_anew read_by call_walked plain_walked plain_worked commit_walked begin_walked exit_walked attempt_walked boot_walked
 second_keeps = refl
 
 second_drops : lines (two_boots (Drop 1)) ≡ 9
-unfolding hidden-the_row-CoreExpr-0 shape-the_row-CoreExpr-0 hidden lines tasks task program values_in reading taken looked dropped dropped_if sealed issued_now trapped_by word reading_target put_reading issued_anew read_by call_walked plain_walked commit_walked begin_walked exit_walked attempt_walked boot_walked
+unfolding hidden-the_row-CoreExpr-0 shape-the_row-CoreExpr-0 hidden lines tasks task program values_in reading taken looked dropped dropped_if sealed issued_now trapped_by word reading_target put_reading issued_anew read_by call_walked plain_walked plain_worked commit_walked begin_walked exit_walked attempt_walked boot_walked
 second_drops = refl
 
 -- ---- ends

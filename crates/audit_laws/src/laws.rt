@@ -48,7 +48,7 @@ pub fn a_walk_finds_the_lines_that_are_allowed(c: &Core, world: &World)
 {}
 
 /// The answer on a report is told by how many of its first lines are right: those of its boots that are allowed, and that of its end
-/// if all of them are and the run may end so. No other answer is one.
+/// if all of them are and the run may end so. No other answer is one. No more lines are right than there are.
 pub fn the_lines_that_are_right_tell_the_answer(c: &Core, world: &World)
     requires { IsWellFormed c.now }
     ensures right { (bytes : List ℕ) (lines : List ReportLine) → IsReport bytes lines → (boots : List ReportBoot) → boots_of boots ≡ (gathered c.now false 1 lines).boots
@@ -57,6 +57,9 @@ pub fn the_lines_that_are_right_tell_the_answer(c: &Core, world: &World)
     ensures only { (bytes : List ℕ) (lines : List ReportLine) → IsReport bytes lines → (boots : List ReportBoot) → boots_of boots ≡ (gathered c.now false 1 lines).boots
         → (n : ℕ) → Reaches (IsAllowed c.now world.now) (boots_of boots) n → (a : Answer) → IsAnswerOn c.now world.now lines a
         → a ≡ answer_by (right_lines n (lines_of (boots_of boots)) (gathered c.now false 1 lines).ending (λ e. end_fits world.now.power boots e.0 e.1)) (length lines) }
+    ensures within { (bytes : List ℕ) (lines : List ReportLine) → IsReport bytes lines → (boots : List ReportBoot) → boots_of boots ≡ (gathered c.now false 1 lines).boots
+        → (n : ℕ) → Reaches (IsAllowed c.now world.now) (boots_of boots) n
+        → right_lines n (lines_of (boots_of boots)) (gathered c.now false 1 lines).ending (λ e. end_fits world.now.power boots e.0 e.1) ≤ length lines }
 {
     an_event_and_its_text_give_each_other();
 }

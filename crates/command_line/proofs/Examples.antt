@@ -2,7 +2,7 @@
 use Rattle.std.proofs.Common.{◌≡◌, true, false, [], ◌∷◌, refl, codes}
 use Rattle.std.specs.Fmt.{digits}
 use Rattle.std.specs.Prelude.{Some, None}
-use Rattle.command_line.specs.Form.{walk, run, build, sites, debug, walk_in, run_in, build_in, sites_in, debug_in, form_of}
+use Rattle.command_line.specs.Form.{walk, run, build, sites, debug, audit, soak, walk_in, run_in, build_in, sites_in, debug_in, audit_in, soak_in, form_of}
 use Rattle.command_line.specs.Line.{line_from, value_from}
 use Rattle.word_isa.specs.declared.parts.Scheme.TheVariants.{Undo, Bank}
 
@@ -66,3 +66,27 @@ debug_has_three_files = refl
 debug_is_never_brief : form_of (codes "debug" ∷ codes "i" ∷ codes "w" ∷ codes "s" ∷ codes "--brief" ∷ []) ≡ None
 unfolding form_of line_from value_from debug_in
 debug_is_never_brief = refl
+
+a_report_is_audited : form_of (codes "audit" ∷ codes "p" ∷ codes "w" ∷ codes "r" ∷ []) ≡ Some (audit (codes "p") (codes "w") (codes "r"))
+unfolding form_of line_from value_from audit_in
+a_report_is_audited = refl
+
+audit_has_a_world : form_of (codes "audit" ∷ codes "p" ∷ codes "r" ∷ []) ≡ None
+unfolding form_of line_from value_from audit_in
+audit_has_a_world = refl
+
+soak_of_a_number : form_of (codes "soak" ∷ codes "24" ∷ []) ≡ Some (soak 24)
+unfolding form_of line_from value_from soak_in digits
+soak_of_a_number = refl
+
+soak_has_one_number : form_of (codes "soak" ∷ codes "1" ∷ codes "2" ∷ []) ≡ None
+unfolding form_of line_from value_from soak_in digits
+soak_has_one_number = refl
+
+soak_has_no_option : form_of (codes "soak" ∷ codes "1" ∷ codes "--scheme=undo" ∷ []) ≡ None
+unfolding form_of line_from value_from soak_in
+soak_has_no_option = refl
+
+soak_wants_a_number : form_of (codes "soak" ∷ codes "+1" ∷ []) ≡ None
+unfolding form_of line_from value_from soak_in digits
+soak_wants_a_number = refl

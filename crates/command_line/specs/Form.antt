@@ -15,6 +15,8 @@ pub data Form : Type 0 where
   build : (program : Text) → (scheme : Scheme) → Form
   sites : (program : Text) → Form
   debug : (image world script : Text) → Form
+  audit : (program world report : Text) → Form
+  soak : (number : ℕ) → Form
 
 infixl 10 ◌>>=◌
 abbrev pub ◌>>=◌ : {A B : Type 0} → Option A → (A → Option B) → Option B
@@ -67,6 +69,21 @@ debug_in args = if nat_lt 3 (length args) then None else do
   script ← slice_get args 2
   Some (debug image world script)
 
+-- `audit PROGRAM WORLD REPORT`
+unfoldable pub audit_in : List Text → Option Form
+audit_in args = if nat_lt 3 (length args) then None else do
+  program ← slice_get args 0
+  world ← slice_get args 1
+  report ← slice_get args 2
+  Some (audit program world report)
+
+-- `soak NUMBER`
+unfoldable pub soak_in : List Text → Option Form
+soak_in args = if nat_lt 1 (length args) then None else do
+  word ← slice_get args 0
+  number ← number_in 4294967295 word
+  Some (soak number)
+
 -- the form of a command with its options; an option with a command that hasn't it is none
 abbrev pub asked_by : Text → List Text → Bool → Option Text → Option Form
 asked_by command args brief scheme =
@@ -75,6 +92,8 @@ asked_by command args brief scheme =
     else if bytes_eq command (codes "build") then (if brief then None else build_in args scheme)
     else if bytes_eq command (codes "sites") then (if brief || is_some scheme then None else sites_in args)
     else if bytes_eq command (codes "debug") then (if brief || is_some scheme then None else debug_in args)
+    else if bytes_eq command (codes "audit") then (if brief || is_some scheme then None else audit_in args)
+    else if bytes_eq command (codes "soak") then (if brief || is_some scheme then None else soak_in args)
     else None
 
 -- the form of a line, by its first positional
@@ -92,6 +111,8 @@ seen (command.Run image world brief) = run image.now world.now brief
 seen (command.Build program scheme) = build program.now scheme
 seen (command.Sites program) = sites program.now
 seen (command.Debug image world script) = debug image.now world.now script.now
+seen (command.Audit program world report) = audit program.now world.now report.now
+seen (command.Soak number) = soak number
 
 -- a walk is of at most 1,000 tasks
 abbrev pub HasFewTasks : Command → Type 0
@@ -100,3 +121,5 @@ HasFewTasks (command.Run image world brief) = Unit {0}
 HasFewTasks (command.Build program scheme) = Unit {0}
 HasFewTasks (command.Sites program) = Unit {0}
 HasFewTasks (command.Debug image world script) = Unit {0}
+HasFewTasks (command.Audit program world report) = Unit {0}
+HasFewTasks (command.Soak number) = Unit {0}

@@ -39,6 +39,16 @@ pub enum Command<'a> {
         world: &'a str,
         script: &'a str,
     },
+    /// `audit PROGRAM WORLD REPORT`.
+    Audit {
+        program: &'a str,
+        world: &'a str,
+        report: &'a str,
+    },
+    /// `soak NUMBER`: 0 to 4,294,967,295.
+    Soak {
+        number: u32,
+    },
 }
 
 /// What the words of a command line ask for; None exactly where they are none of the forms. A walk is of at most 1,000 tasks.
@@ -99,6 +109,18 @@ fn asked_by<'a>(command: &str, words: &Words<'a>) -> Option<Command<'a>>
             return None;
         }
         return debug_in(args);
+    }
+    if command == "audit" {
+        if has_option(words) {
+            return None;
+        }
+        return audit_in(args);
+    }
+    if command == "soak" {
+        if has_option(words) {
+            return None;
+        }
+        return soak_in(args);
     }
     None
 }
@@ -208,6 +230,36 @@ fn debug_in<'a>(args: &[&'a str]) -> Option<Command<'a>>
         world,
         script,
     })
+}
+
+#[tactic(auto, unfolding(crate::specs::Form::audit_in))]
+fn audit_in<'a>(args: &[&'a str]) -> Option<Command<'a>>
+    ensures form { option_map spec.seen result ≡ spec.audit_in (map (λ s. s.now) args.now) }
+    ensures few { IfSome result spec.HasFewTasks }
+{
+    if args.len() > 3 {
+        return None;
+    }
+    let program = text_at(args, 0)?;
+    let world = text_at(args, 1)?;
+    let report = text_at(args, 2)?;
+    Some(Command::Audit {
+        program,
+        world,
+        report,
+    })
+}
+
+#[tactic(auto, unfolding(crate::specs::Form::soak_in))]
+fn soak_in<'a>(args: &[&'a str]) -> Option<Command<'a>>
+    ensures form { option_map spec.seen result ≡ spec.soak_in (map (λ s. s.now) args.now) }
+    ensures few { IfSome result spec.HasFewTasks }
+{
+    if args.len() > 1 {
+        return None;
+    }
+    let number = number_in(text_at(args, 0)?, u32::MAX)?;
+    Some(Command::Soak { number })
 }
 
 #[tactic(auto, using(crate::proofs::FormLaws::text_seen))]

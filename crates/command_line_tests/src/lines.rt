@@ -42,10 +42,18 @@ fn text(alloc: Global, command: &Option<Command<'_>>) -> Result<String, AllocErr
                 script,
             },
         ) => format!(in alloc; "debug {image} {world} {script}"),
+        Some(Command::Soak { number }) => format!(in alloc; "soak {number}"),
+        Some(
+            Command::Audit {
+                program,
+                world,
+                report,
+            },
+        ) => format!(in alloc; "audit {program} {world} {report}"),
     }
 }
 
-static LINES: [(&str, &str); 134] = [
+static LINES: [(&str, &str); 156] = [
     ("build|p", "build p Undo"),
     ("build|-", "build - Undo"),
     ("build|p|--scheme|undo", "build p Undo"),
@@ -180,6 +188,28 @@ static LINES: [(&str, &str); 134] = [
     ("run|i|w|x", "usage"),
     ("walk|p|4294967296", "usage"),
     ("walk|p|18446744073709551616", "usage"),
+    ("soak|1", "soak 1"),
+    ("soak|0", "soak 0"),
+    ("--|soak|4294967295", "soak 4294967295"),
+    ("soak|4294967296", "usage"),
+    ("soak|01", "usage"),
+    ("soak|one", "usage"),
+    ("soak", "usage"),
+    ("soak|1|2", "usage"),
+    ("soak|1|--brief", "usage"),
+    ("soak|1|--scheme|undo", "usage"),
+    ("audit|p|w|r", "audit p w r"),
+    ("audit|-|-|-", "audit - - -"),
+    ("--|audit|p|w|r", "audit p w r"),
+    ("audit|--|--brief|-w|--scheme", "audit --brief -w --scheme"),
+    ("audit|audit|run|", "audit audit run "),
+    ("audit", "usage"),
+    ("audit|p|w", "usage"),
+    ("audit|p|w|r|x", "usage"),
+    ("audit|p|w|r|--brief", "usage"),
+    ("audit|p|w|r|--scheme=bank", "usage"),
+    ("audit|p|w|-r", "usage"),
+    ("Audit|p|w|r", "usage"),
 ];
 
 #[test]

@@ -1,18 +1,19 @@
 -- From what the parts of a command answer to what the command says.
 use Rattle.std.proofs.Common.{◌≡◌, ℕ, ◌<◌, ◌≤◌, Bool, List, [], ◌∷◌, ◌++◌, length, take, Option, Some, None, Result, Ok, Err, IfOk, refl, sym, ap, subst, ◌∙◌, arith, inl, inr}
-use Rattle.command_line.specs.Form.{Form, walk, run, build, sites, debug}
+use Rattle.audit_laws.specs.Answers.{Answer, legal, illegal, no_report, IsAnswerOn}
+use Rattle.command_line.specs.Form.{Form, walk, run, build, sites, debug, audit, soak}
 use Rattle.devices.specs.declared.event.RunEnd.{RunEnd}
 use Rattle.devices.specs.declared.event.RunEnd.TheVariants as run_end
 use Rattle.devices.specs.declared.world.World.{World}
 use Rattle.ease_base.specs.Cabinet.{Contents}
 use Rattle.ease_base.specs.Sink.{extended, TookFront}
 use Rattle.ease_base.specs.declared.error.NoMemory.{NoMemory}
-use Rattle.ease_cli.proofs.FileLemmas.{both_fetches, read_stays, tells_line}
+use Rattle.ease_cli.proofs.FileLemmas.{both_fetches, read_stays, tells_line, tells_weaker}
 use Rattle.ease_cli.specs.Answer.{Answers, Tells, AreRead, IsRead, Reaches, Stops, unbrought, refused, Says, stopped, done, IsUsage, LineSays, Writes, TellsFetchFault}
-use Rattle.ease_cli.specs.Files.{Files, files_of, Kind, source_file, image_file, world_file, script_file, Wanted, named, named_if, wanted, limit_of, IsQuiet, IsUnbrought, failed, long}
-use Rattle.ease_cli.specs.Inputs.{Input, tree, image, world, script, refused_status, IsRefused}
+use Rattle.ease_cli.specs.Files.{Files, files_of, Kind, source_file, image_file, world_file, script_file, report_file, Wanted, named, named_if, wanted, limit_of, IsQuiet, IsUnbrought, failed, long}
+use Rattle.ease_cli.specs.Inputs.{Input, tree, image, world, script, report, refused_status, IsRefused, IsTree}
 use Rattle.ease_cli.specs.Lines.{usage}
-use Rattle.ease_cli.specs.Output.{IsOutput, walks, runs, builds, accounts, debugs, IsWalkOutput, IsRunOutput, IsBuilt, IsAccount, IsSession, walk_status, run_status, session_status}
+use Rattle.ease_cli.specs.Output.{IsOutput, walks, runs, builds, accounts, debugs, audits, IsWalkOutput, IsRunOutput, IsBuilt, IsAccount, IsSession, IsAudit, walk_status, run_status, session_status, verdict_status, soaks, soaks_in_vain, IsSoaked}
 use Rattle.ease_cli.specs.declared.refusal.Refusal.{Refusal}
 use Rattle.ease_cli.specs.declared.refusal.Refusal.TheVariants as refusal
 use Rattle.ease_cli.specs.declared.status.Status.{Status}
@@ -20,6 +21,9 @@ use Rattle.ease_cli.specs.declared.status.Status.TheVariants as ends
 use Rattle.ease_debug.specs.declared.command.Script.{Script}
 use Rattle.ease_debug.specs.declared.end.DebugEnd.{DebugEnd}
 use Rattle.ease_debug.specs.declared.end.DebugEnd.TheVariants as debug_end
+use Rattle.report_text.specs.declared.line.ReportLine.{ReportLine}
+use Rattle.soak_case.specs.Readings.{world_of}
+use Rattle.soak_case.specs.Source.{source_of}
 use Rattle.task_ast.specs.declared.core_form.Core.{Core}
 use Rattle.task_ast.specs.declared.tree.Program.{Program}
 use Rattle.task_check.specs.CheckedForm.{core_of}
@@ -172,6 +176,31 @@ debug_on f file named_world listed i w s r before after quiet read second third 
     answers_weaker (IsSession i w s) (Says (debug file named_world listed) f) r before after
     (λ st t output. done (image i ∷ (world w ∷ (script s ∷ []))) quiet (read, (second, (third, tt))) (debugs file named_world listed i w s refl refl output)) answers
 
+-- `audit`
+pub audit_on : (f : Files) (program named_world listed : List ℕ) (p : Program) (core : Core) (w : World) (lines : List ReportLine) (r : Result Status Refusal) (before after : Option (List ℕ))
+    → IsQuiet f → IsRead f (named source_file program) [] (tree p) → IsRead f (named world_file named_world) (tree p ∷ []) (world w) → IsRead f (named report_file listed) (tree p ∷ (world w ∷ [])) (report lines)
+    → core ≡ core_of p → Answers (IsAudit core w lines) r before after → Answers (Says (audit program named_world listed) f) r before after
+audit_on f program named_world listed p core w lines r before after quiet read second third is answers =
+    answers_weaker (IsAudit core w lines) (Says (audit program named_world listed) f) r before after
+    (λ s t output. done (tree p ∷ (world w ∷ (report lines ∷ []))) quiet (read, (second, (third, tt)))
+    (audits program named_world listed p w lines refl refl (subst (λ (c : Core). IsAudit c w lines s t) is output))) answers
+
+-- `soak`
+pub soaked_of : (f : Files) (number : ℕ) (p : Program) (core : Core) (bytes : List ℕ) (w : World) (r : Result Status Refusal) (before after : Option (List ℕ))
+    → IsQuiet f → bytes ≡ source_of number → IsTree bytes p → core ≡ core_of p → w ≡ world_of number → Answers (IsSoaked core w) r before after → Answers (Says (soak number) f) r before after
+soaked_of f number p core bytes w r before after quiet drawn read is met answers =
+    answers_weaker (IsSoaked core w) (Says (soak number) f) r before after
+    (λ s t output. done [] quiet tt (soaks number p refl refl (subst (λ (b : List ℕ). IsTree b p) drawn read)
+    (subst (λ (x : World). IsSoaked (core_of p) x s t) met (subst (λ (c : Core). IsSoaked c w s t) is output)))) answers
+
+-- the program of a soak is refused
+pub soak_refused : (f : Files) (number : ℕ) (bytes : List ℕ) (e : Refusal) (r : Result Status Refusal) (before after : Option (List ℕ))
+    → IsQuiet f → bytes ≡ source_of number → Tells (IsRefused source_file [] bytes) e → r ≡ Err e → after ≡ before → Answers (Says (soak number) f) r before after
+soak_refused f number bytes e r before after quiet drawn told is same =
+    subst (λ (x : Result Status Refusal). Answers (Says (soak number) f) x before after) (sym is)
+    (answers_refusal (Says (soak number) f) e before after same (tells_weaker (IsRefused source_file [] bytes) (Says (soak number) f) e
+    (λ s t vain. done [] quiet tt (soaks_in_vain number refl refl (subst (λ (b : List ℕ). IsRefused source_file [] b s t) drawn vain))) told))
+
 -- ---- what is said has a status of its own
 
 -- the statuses that write no line
@@ -188,12 +217,15 @@ IsSilent ends.TooLong = ⊥
 IsSilent ends.Trapped = ⊥
 IsSilent ends.PowerEnded = ⊥
 IsSilent ends.ScriptRefused = ⊥
+IsSilent ends.ReportRefused = ⊥
+IsSilent ends.Illegal = ⊥
 
 refusal_speaks : (kind : Kind) → IsSilent (refused_status kind) → ⊥
 refusal_speaks source_file silent = silent
 refusal_speaks image_file silent = silent
 refusal_speaks world_file silent = silent
 refusal_speaks script_file silent = silent
+refusal_speaks report_file silent = silent
 
 walk_speaks : (e : WalkEnd) → IsSilent (walk_status e) → ⊥
 walk_speaks (walk_end.Trapped trap) silent = silent
@@ -212,6 +244,11 @@ session_speaks debug_end.Halted silent = silent
 session_speaks (debug_end.Trapped code) silent = silent
 session_speaks debug_end.Power silent = silent
 
+verdict_speaks : (a : Answer) → IsSilent (verdict_status a) → ⊥
+verdict_speaks legal silent = silent
+verdict_speaks (illegal n) silent = silent
+verdict_speaks (no_report n) silent = silent
+
 unbrought_speaks : (f : Files) (name : List ℕ) (limit : ℕ) (s : Status) (t : List ℕ) → IsUnbrought f name limit s t → IsSilent s → ⊥
 unbrought_speaks f name limit s t (failed is line steady why) silent = subst IsSilent is silent
 unbrought_speaks f name limit s t (long is line steady rose why) silent = subst IsSilent is silent
@@ -222,6 +259,9 @@ output_speaks c inputs s t (runs file named brief i w asked read output) silent 
 output_speaks c inputs s t (builds program scheme p asked read output) silent = subst IsSilent output.ended silent
 output_speaks c inputs s t (accounts program p asked read output) silent = subst IsSilent output.ended silent
 output_speaks c inputs s t (debugs file named listed i w played asked read output) silent = session_speaks _ (subst IsSilent output.ended silent)
+output_speaks c inputs s t (audits program named listed p w lines asked read output) silent = verdict_speaks _ (subst IsSilent output.ended silent)
+output_speaks c inputs s t (soaks number p asked read parsed output) silent = run_speaks _ (subst IsSilent output.ended silent)
+output_speaks c inputs s t (soaks_in_vain number asked read vain) silent = refusal_speaks source_file (subst IsSilent vain.status_is silent)
 
 stops_speak : (f : Files) (at : Wanted) (before : List Input) (s : Status) (t : List ℕ) → Stops f at before s t → IsSilent s → ⊥
 stops_speak f at before s t (unbrought why) silent = unbrought_speaks f at.name (limit_of at.kind) s t why silent
@@ -269,6 +309,8 @@ writes_whole form f ends.TooLong t before after said is = (t, said, is)
 writes_whole form f ends.Trapped t before after said is = (t, said, is)
 writes_whole form f ends.PowerEnded t before after said is = (t, said, is)
 writes_whole form f ends.ScriptRefused t before after said is = (t, said, is)
+writes_whole form f ends.ReportRefused t before after said is = (t, said, is)
+writes_whole form f ends.Illegal t before after said is = (t, said, is)
 writes_whole form f ends.WriteFault t before after said is = absurd (line_speaks form f ends.WriteFault t said tt)
 writes_whole form f ends.NoMemory t before after said is = absurd (line_speaks form f ends.NoMemory t said tt)
 

@@ -1,12 +1,20 @@
 -- Why the bytes of a file are refused, from what their reader answers.
-use Rattle.std.proofs.Common.{◌≡◌, ◌≢◌, ℕ, List, [], ◌∷◌, Option, Some, None, Result, Ok, Err, IfOk, IfErr, refl, sym, ap, subst, ◌∙◌}
+use Rattle.std.proofs.Common.{◌≡◌, ◌≢◌, ℕ, List, [], ◌∷◌, Option, Some, None, Result, Ok, Err, IfOk, IfErr, IfSome, refl, sym, ap, subst, ◌∙◌}
 use Rattle.std.specs.Prelude.{OnOk, MatchResult}
+use Rattle.audit_gather.specs.Told.{answer_of}
+use Rattle.audit_gather.specs.declared.answer.Verdict.{Verdict}
+use Rattle.audit_gather.specs.declared.answer.Verdict.TheVariants as verdict
+use Rattle.audit_laws.specs.Answers.{Answer, no_report, IsAnswer, IsAnswerOn}
+use Rattle.audit_verdict.specs.Answered.{refusal_in, IsJudged}
+use Rattle.audit_verdict.specs.Texts.{answer_text}
+use Rattle.audit_verdict.specs.declared.error.AuditError.{AuditError}
+use Rattle.audit_verdict.specs.declared.error.AuditError.TheVariants as audit
 use Rattle.devices.specs.declared.world.World.{World}
 use Rattle.ease_base.specs.declared.error.NoMemory.{NoMemory}
 use Rattle.ease_base.specs.declared.place.Peripheral.{Peripheral}
-use Rattle.ease_cli.specs.Answer.{Tells}
-use Rattle.ease_cli.specs.Files.{source_file, image_file, world_file, script_file}
-use Rattle.ease_cli.specs.Inputs.{Input, IsRefused, IsTree, IsImage, IsScript, IsUnaccepted, names_of, unread, unaccepted}
+use Rattle.ease_cli.specs.Answer.{Tells, IsRead}
+use Rattle.ease_cli.specs.Files.{Files, named, limit_of, IsBrought, source_file, image_file, world_file, script_file, report_file}
+use Rattle.ease_cli.specs.Inputs.{Input, IsRefused, IsTree, IsImage, IsScript, IsUnaccepted, IsReportLine, names_of, unread, unaccepted}
 use Rattle.ease_cli.specs.Inputs as inputs
 use Rattle.ease_cli.specs.Lines.{text_line, check_line, world_line, image_line, script_line}
 use Rattle.ease_cli.specs.declared.readers.Source.{Source}
@@ -23,6 +31,9 @@ use Rattle.image_file.specs.Bytes.{image_bytes, raw_of, HasFields}
 use Rattle.image_file.specs.Faults.{image_fault}
 use Rattle.image_file.specs.declared.error.ImageError.{ImageError}
 use Rattle.image_file.specs.declared.error.ImageError.TheVariants as image
+use Rattle.report_text.specs.Grammar.{IsReport}
+use Rattle.report_text.specs.declared.line.ReportLine.{ReportLine}
+use Rattle.task_ast.specs.declared.core_form.Core.{Core}
 use Rattle.task_ast.specs.declared.tree.Program.{Program}
 use Rattle.task_check.specs.CheckedForm.{core_of}
 use Rattle.task_check.specs.Faults.{Accepted, first_fault}
@@ -144,4 +155,41 @@ script_refused bytes i rest fault line r first only spelled memory told = made (
       status_is = refl;
       line = first_told i (lines_of bytes) fault t other first (line_has (λ x. x ≡ script_line fault) line t spelled is);
       none = λ s is_script. reads_none s.lines fault other (only s.lines is_script);
+    })
+
+-- ---- reports
+
+-- bytes on which a verdict is the answer are a report
+answered_lines : (c : Core) (w : World) (bytes : List ℕ) (v : Verdict) → IsAnswer c w bytes (answer_of v) → (lines : List ReportLine) × IsReport bytes lines × IsAnswerOn c w lines (answer_of v)
+answered_lines c w bytes verdict.Legal is = is
+answered_lines c w bytes (verdict.Illegal n) is = is
+
+-- a report that was brought, with the answer on its lines
+pub report_read : (f : Files) (name : List ℕ) (before : List Input) (bytes got : List ℕ) (c : Core) (w : World) (v : Verdict) → got ≡ bytes → IsBrought f name (limit_of report_file) bytes
+    → IsAnswer c w got (answer_of v) → (lines : List ReportLine) × IsRead f (named report_file name) before (inputs.report lines) × IsAnswerOn c w lines (answer_of v)
+report_read f name before bytes got c w v same brought is =
+    let told = answered_lines c w bytes v (subst (λ (b : List ℕ). IsAnswer c w b (answer_of v)) same is) in
+    (told.0, record { bytes = bytes; brought = brought; is = told.1 }, told.2)
+
+-- bytes that are no report
+report_line : (c : Core) (w : World) (bytes text : List ℕ) (n : ℕ) → IsAnswer c w bytes (no_report n) → text ≡ answer_text (no_report n) → IsReportLine bytes text
+report_line c w bytes text n is line = (is.0, is.2, line ∙ ap (λ (m : ℕ). answer_text (no_report m)) is.1)
+
+first_no_report : (c : Core) (w : World) (bytes text : List ℕ) (fault : AuditError) → fault ≢ audit.NoMemory → IfSome (refusal_in fault) (IsAnswer c w bytes) → IfSome (refusal_in fault) (λ a. text ≡ answer_text a) → IsReportLine bytes text
+first_no_report c w bytes text (audit.Line n) other is line = report_line c w bytes text n is line
+first_no_report c w bytes text audit.NoMemory other is line = absurd (other refl)
+
+judged_none : (fault : AuditError) → fault ≢ audit.NoMemory → IsJudged (Err fault) → ⊥
+judged_none (audit.Line n) other judged = judged
+judged_none audit.NoMemory other judged = other refl
+
+pub report_refused : (c : Core) (w : World) (bytes : List ℕ) (before : List Input) (fault : AuditError) (line : Result (List ℕ) NoMemory) (r : Refusal) → IfSome (refusal_in fault) (IsAnswer c w bytes)
+    → ((lines : List ReportLine) → IsReport bytes lines → IsJudged (Err fault))
+    → IfOk line (λ t. IfSome (refusal_in fault) (λ a. t ≡ answer_text a)) → OnOk line (fault ≢ audit.NoMemory) → Tells (λ s t. (s ≡ ends.ReportRefused) × (line ≡ Ok t)) r → Tells (IsRefused report_file before bytes) r
+report_refused c w bytes before fault line r is only spelled memory told = made (IsRefused report_file before bytes) ends.ReportRefused line r told (λ t made_of.
+    let other = line_has (λ _. fault ≢ audit.NoMemory) line t memory made_of in
+    record {
+      status_is = refl;
+      line = first_no_report c w bytes t fault other is (line_has (λ x. IfSome (refusal_in fault) (λ a. x ≡ answer_text a)) line t spelled made_of);
+      none = λ lines is_report. judged_none fault other (only lines is_report);
     })

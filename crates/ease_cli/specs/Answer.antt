@@ -91,3 +91,5 @@ TellsFetchFault ends.TooLong = ⊥
 TellsFetchFault ends.Trapped = ⊥
 TellsFetchFault ends.PowerEnded = ⊥
 TellsFetchFault ends.ScriptRefused = ⊥
+TellsFetchFault ends.ReportRefused = ⊥
+TellsFetchFault ends.Illegal = ⊥

@@ -1,6 +1,6 @@
 -- The files that a command names, and a cabinet while they are fetched.
 use Rattle.std.specs.Prelude.{◌≡◌, ◌⊎◌, ℕ, ◌<◌, ◌≤◌, Bool, IsTrue, List, [], ◌∷◌, length, Option, Some, None}
-use Rattle.command_line.specs.Form.{Form, walk, run, build, sites, debug}
+use Rattle.command_line.specs.Form.{Form, walk, run, build, sites, debug, audit, soak}
 use Rattle.ease_base.specs.Cabinet.{Contents, Brings, Lacks}
 use Rattle.ease_base.specs.Count.{HasRisen, raised}
 use Rattle.ease_cli.specs.declared.status.Status.{Status}
@@ -12,6 +12,7 @@ pub data Kind : Type 0 where
   image_file : Kind
   world_file : Kind
   script_file : Kind
+  report_file : Kind
 
 -- a file of the words, and what is to stand in it
 pub record Wanted : Type 0 where
@@ -32,6 +33,8 @@ wanted (run image world brief) = named image_file image ∷ (named world_file wo
 wanted (build program scheme) = named source_file program ∷ []
 wanted (sites program) = named source_file program ∷ []
 wanted (debug image world script) = named image_file image ∷ (named world_file world ∷ (named script_file script ∷ []))
+wanted (audit program world report) = named source_file program ∷ (named world_file world ∷ (named report_file report ∷ []))
+wanted (soak number) = []
 
 -- the most bytes of a file
 abbrev pub limit_of : Kind → ℕ
@@ -39,6 +42,7 @@ limit_of source_file = 65536
 limit_of image_file = 40000000
 limit_of world_file = 1048576
 limit_of script_file = 65536
+limit_of report_file = 67108864
 
 -- A cabinet during a command: what it tells, and its two counts before and after.
 pub record Files : Type 0 where

@@ -65,8 +65,8 @@ fn write_built<K: Sink>(
     Ok(Status::Ok)
 }
 
-// The image of a checked form.
-fn image_of(alloc: Global, core: &Core, scheme: Scheme) -> Result<Image, NoMemory>
+/// The image of a checked form.
+pub fn image_of(alloc: Global, core: &Core, scheme: Scheme) -> Result<Image, NoMemory>
     requires { IsWellFormed core.now }
     ensures { IfOk result (IsImageOf (plan_of core.now scheme) core.now) }
 {

@@ -1,21 +1,25 @@
 //! The files of a command: each is fetched and then read.
 ghost use Rattle.std.specs.Prelude.{◌≡◌, ◌⊎◌, ℕ, List, [], ◌∷◌, ◌<◌, ◌≤◌, IsTrue, IfOk, IfErr, OnOk, All};
+ghost use Rattle.audit_gather.specs.Told.{answer_of};
+ghost use Rattle.audit_laws.specs.Answers.{IsAnswerOn};
 ghost use Rattle.devices.specs.World.{IsWithinLimits};
 ghost use Rattle.ease_base.specs.Count.{raised};
 ghost use Rattle.ease_cli.specs.Answer.{IsRead, Stops, Tells};
-ghost use Rattle.ease_cli.specs.Files.{files_of, named, source_file, image_file, world_file, script_file, IsQuiet, IsBrought, IsUnbrought};
+ghost use Rattle.ease_cli.specs.Files.{files_of, named, source_file, image_file, world_file, script_file, report_file, IsQuiet, IsBrought, IsUnbrought};
 ghost use Rattle.ease_cli.specs.Inputs as inputs;
 ghost use Rattle.ease_debug.specs.Commands.{accepts};
 ghost use Rattle.ease_debug.specs.declared.command.Command.{Command};
+ghost use Rattle.report_text.specs.declared.line.ReportLine.{ReportLine};
 ghost use Rattle.task_ast.specs.WellFormed.{IsWellFormed};
 ghost use Rattle.task_ast.specs.declared.tree.Program.{Program};
 ghost use Rattle.task_check.specs.CheckedForm.{core_of};
 ghost use Rattle.world_file.specs.Peripherals.{AreApart};
 
 use crate::lines::{READ_FAULT, TOO_LONG};
-use crate::readers::{Source, image_in, program_in, script_in, world_in};
+use crate::readers::{Source, image_in, program_in, script_in, verdict_in, world_in};
 use crate::refusal::{Refusal, refuse};
 use crate::status::Status;
+use audit_verdict::Verdict;
 use devices::World;
 use ease_base::{Cabinet, FetchError, List, Peripheral, Text};
 use ease_debug::Script;
@@ -34,6 +38,9 @@ const WORLD_LIMIT: usize = 1_048_576;
 
 /// The most bytes of a script.
 const SCRIPT_LIMIT: usize = 65_536;
+
+/// The most bytes of a report.
+const REPORT_LIMIT: usize = 67_108_864;
 
 /// The program in a file, with its checked form.
 pub fn fetch_source<C: Cabinet>(alloc: Global, files: &mut C, name: &str) -> Result<Source, Refusal>
@@ -132,6 +139,30 @@ pub fn fetch_script<C: Cabinet>(
 {
     let bytes = fetch_bytes(alloc, files, name, SCRIPT_LIMIT)?;
     script_in(alloc, bytes.as_slice(), image)
+}
+
+/// The verdict on the report in a file, of a program in a world.
+pub fn fetch_verdict<C: Cabinet>(
+    alloc: Global,
+    files: &mut C,
+    name: &str,
+    core: &Core,
+    world: &World,
+) -> Result<Verdict, Refusal>
+    requires well_formed { IsWellFormed core.now }
+    requires within { IsWithinLimits world.now }
+    ensures read { (before : List inputs.Input) → IfOk result (λ verdict. (lines : List ReportLine) × IsRead (files_of (C.told files.old) (C.contents files.old) (C.faults files.old) (C.faults files.new) (C.long_contents files.old) (C.long_contents files.new))
+        (named report_file name.now) before (inputs.report lines) × IsAnswerOn core.now world.now lines (answer_of verdict)) }
+    ensures stops { (before : List inputs.Input) → IfErr result (Tells (Stops (files_of (C.told files.old) (C.contents files.old) (C.faults files.old) (C.faults files.new) (C.long_contents files.old) (C.long_contents files.new))
+        (named report_file name.now) before)) }
+    ensures quiet { OnOk result (IsQuiet (files_of (C.told files.old) (C.contents files.old) (C.faults files.old) (C.faults files.new) (C.long_contents files.old) (C.long_contents files.new))) }
+    ensures told { C.told files.new ≡ C.told files.old }
+    ensures contents { (name : List ℕ) → C.contents files.new name ≡ C.contents files.old name }
+    ensures faults { C.faults files.old ≤ C.faults files.new }
+    ensures long_contents { (C.long_contents files.new ≡ C.long_contents files.old) ⊎ (C.long_contents files.new ≡ raised (C.long_contents files.old)) }
+{
+    let bytes = fetch_bytes(alloc, files, name, REPORT_LIMIT)?;
+    verdict_in(alloc, bytes.as_slice(), core, world)
 }
 
 // The bytes of a file, at most so many.

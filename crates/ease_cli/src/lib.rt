@@ -1,6 +1,7 @@
 //! The commands of `ease`: words, files and output, with the theorem on the one public call.
 #![tactic(auto)]
 
+mod audit_command;
 mod build_command;
 mod debug_command;
 mod fetched;
@@ -9,6 +10,7 @@ mod readers;
 mod refusal;
 mod run_command;
 mod sites_command;
+mod soak_command;
 mod status;
 mod top;
 mod walk_command;

@@ -1,8 +1,10 @@
 //! What the bytes of a file are, or the refusal with the line of their first fault.
 ghost use Rattle.std.specs.Prelude.{◌≡◌, ℕ, List, [], ◌∷◌, ◌≤◌, length, IsTrue, IfOk, IfErr, All};
+ghost use Rattle.audit_gather.specs.Told.{answer_of};
+ghost use Rattle.audit_laws.specs.Answers.{IsAnswer};
 ghost use Rattle.devices.specs.World.{IsWithinLimits};
 ghost use Rattle.ease_cli.specs.Answer.{Tells};
-ghost use Rattle.ease_cli.specs.Files.{source_file, image_file, world_file, script_file};
+ghost use Rattle.ease_cli.specs.Files.{source_file, image_file, world_file, script_file, report_file};
 ghost use Rattle.ease_cli.specs.Inputs as inputs;
 ghost use Rattle.ease_debug.specs.Commands.{accepts};
 ghost use Rattle.ease_debug.specs.declared.command.Command.{Command};
@@ -16,6 +18,7 @@ ghost use Rattle.world_file.specs.WorldFile.{world_of};
 use crate::lines::{check_line, image_line, script_line, text_line, world_line};
 use crate::refusal::{Refusal, refuse};
 use crate::status::Status;
+use audit_verdict::{Verdict, audit, refusal_text};
 use devices::World;
 use ease_base::{List, Peripheral};
 use ease_debug::{Script, read_script};
@@ -93,5 +96,23 @@ pub fn script_in(alloc: Global, bytes: &[u8], image: &Image) -> Result<Script, R
     match read_script(alloc, bytes, image) {
         Ok(script) => Ok(script),
         Err(fault) => Err(refuse(Status::ScriptRefused, script_line(alloc, fault))),
+    }
+}
+
+/// The verdict on the report that the bytes are, of a program in a world.
+pub fn verdict_in(
+    alloc: Global,
+    bytes: &[u8],
+    core: &Core,
+    world: &World,
+) -> Result<Verdict, Refusal>
+    requires well_formed { IsWellFormed core.now }
+    requires within { IsWithinLimits world.now }
+    ensures read { IfOk result (λ verdict. IsAnswer core.now world.now bytes.now (answer_of verdict)) }
+    ensures refused { (before : List inputs.Input) → IfErr result (Tells (inputs.IsRefused report_file before bytes.now)) }
+{
+    match audit(alloc, core, world, bytes) {
+        Ok(verdict) => Ok(verdict),
+        Err(fault) => Err(refuse(Status::ReportRefused, refusal_text(alloc, fault))),
     }
 }

@@ -65,8 +65,8 @@ fn write_run<K: Sink>(
     }
 }
 
-// The status of a run, by its end.
-fn run_status(end: RunEnd) -> Status
+/// The status of a run, by its end.
+pub fn run_status(end: RunEnd) -> Status
     ensures { result ≡ run_status end }
 {
     match end {

@@ -29,6 +29,10 @@ pub enum Status {
     PowerEnded,
     /// A line of the script may not stand.
     ScriptRefused,
+    /// The bytes are no full report.
+    ReportRefused,
+    /// The report is no journal that the rules allow; the line that says so was written whole.
+    Illegal,
 }
 
 impl Status {
@@ -49,6 +53,8 @@ impl Status {
             Status::Trapped => 9,
             Status::PowerEnded => 10,
             Status::ScriptRefused => 11,
+            Status::ReportRefused => 12,
+            Status::Illegal => 13,
         }
     }
 }

@@ -7,12 +7,14 @@ ghost use Rattle.ease_cli.specs.Files.{files_of};
 ghost use Rattle.ease_cli.specs.Settled.{CanBeRead, Settles};
 ghost use Rattle.ease_cli.specs.declared.refusal.Refusal.TheVariants.{WriteFault};
 
+use crate::audit_command::audit_command;
 use crate::build_command::build_command;
 use crate::debug_command::debug_command;
 use crate::lines::USAGE;
 use crate::refusal::{Refusal, refuse};
 use crate::run_command::run_command;
 use crate::sites_command::sites_command;
+use crate::soak_command::soak_command;
 use crate::status::Status;
 use crate::walk_command::walk_command;
 use command_line::{Command, command_of};
@@ -109,5 +111,13 @@ fn carry_out<C: Cabinet, K: Sink>(
                 script,
             },
         ) => debug_command(alloc, image, world, script, files, out),
+        Some(
+            Command::Audit {
+                program,
+                world,
+                report,
+            },
+        ) => audit_command(alloc, program, world, report, files, out),
+        Some(Command::Soak { number }) => soak_command(alloc, number, out),
     }
 }

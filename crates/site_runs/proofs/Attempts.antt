@@ -37,10 +37,10 @@ use Rattle.code_runs.proofs.BarePlans.{all_run, exits, save_where}
 use Rattle.code_runs.proofs.Following.{act_follows, commit_follows}
 use Rattle.code_runs.proofs.InAttempts.{test_follows}
 use Rattle.code_runs.proofs.InRows.{acts_follow}
-use Rattle.site_claims.specs.InAttempts.{In, LeadsOn}
-use Rattle.call_runs.specs.Calls.{CallsLead}
+use Rattle.site_runs.specs.InAttempts.{In, LeadsOn}
+use Rattle.site_runs.specs.Calls.{CallsLead}
 use Rattle.site_runs.specs.Bodies.{BlocksLead}
-use Rattle.copy_runs.specs.Copies.{CopiesLead}
+use Rattle.site_runs.specs.Copies.{CopiesLead}
 use Rattle.site_runs.proofs.Claims.{in_claim}
 use Rattle.site_runs.proofs.Lying.{entered, lies_parts}
 use Rattle.site_runs.proofs.Statements.{task_body_leads}

@@ -39,10 +39,10 @@ use Rattle.code_cuts.specs.Acts.{CutsAct}
 use Rattle.code_cuts.specs.Asked.{IsInside, IsTimed, SealsBlock}
 use Rattle.code_runs.specs.Following.{AnyWay}
 use Rattle.code_runs.proofs.Placing.{Keeps, known_behind, later}
-use Rattle.site_claims.specs.InAttempts.{In, IsAround, IsLooked, LeadsOn, Never, With}
-use Rattle.site_claims.proofs.Behind.{around_later, attempt_kept}
-use Rattle.site_claims.proofs.Leading.{act_leads, each_way, no_leads, straight_leads}
-use Rattle.site_claims.proofs.Lists.{lists_lie}
+use Rattle.site_runs.specs.InAttempts.{In, IsAround, IsLooked, LeadsOn, Never, With}
+use Rattle.site_runs.proofs.Behind.{around_later, attempt_kept}
+use Rattle.site_runs.proofs.Leading.{act_leads, each_way, no_leads, straight_leads}
+use Rattle.site_runs.proofs.Lists.{lists_lie}
 use Rattle.site_runs.specs.Bodies.{BlocksLead, IsBlockOf}
 use Rattle.site_runs.proofs.Claims.{all_around, still_around}
 use Rattle.site_runs.proofs.Finding.{to_site}

@@ -8,8 +8,8 @@ use Rattle.word_machine.specs.Straight.{Spot}
 use Rattle.run_plan.specs.Cells.{Frame, State}
 use Rattle.run_plan.specs.Small.{Doing}
 use Rattle.code_runs.specs.Claims.{IsClaim}
-use Rattle.site_claims.specs.InAttempts.{In, IsAround}
-use Rattle.site_claims.proofs.Behind.{around_later}
+use Rattle.site_runs.specs.InAttempts.{In, IsAround}
+use Rattle.site_runs.proofs.Behind.{around_later}
 
 -- a block around is so later, where its beginning and the mode outside it are noted as they were
 pub still_around : (k : ℕ) (m there : Spot) (s to : State) → m.clock ≤ there.clock → to.frame.begun k ≡ s.frame.begun k → to.frame.outer k ≡ s.frame.outer k → IsAround k m s → IsAround k there to

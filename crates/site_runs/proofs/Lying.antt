@@ -12,7 +12,7 @@ use Rattle.word_code.specs.Frames.{Frame}
 use Rattle.word_code.specs.Sizes.{act_size, acts_size}
 use Rattle.code_places.specs.Placed.{ActLies, ActsLie}
 use Rattle.act_refines.specs.Does.{frame_of}
-use Rattle.site_claims.specs.InAttempts.{In, LeadsOn}
+use Rattle.site_runs.specs.InAttempts.{In, LeadsOn}
 use Rattle.site_runs.specs.Bodies.{ActsLead}
 
 module _ (p : Program) (f : Frame) (keeps : Bool) where

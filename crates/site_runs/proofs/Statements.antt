@@ -54,10 +54,10 @@ use Rattle.code_runs.proofs.BareActs.{plain_runs, test_runs}
 use Rattle.code_runs.proofs.BareLaws.{BareLaws}
 use Rattle.code_runs.proofs.BarePlans.{all_at, lists_lie, some_steps}
 use Rattle.code_runs.proofs.Following.{act_follows, ways_lead}
-use Rattle.site_claims.specs.InAttempts.{In, LeadsOn}
-use Rattle.call_runs.specs.Calls.{CallsLead}
+use Rattle.site_runs.specs.InAttempts.{In, LeadsOn}
+use Rattle.site_runs.specs.Calls.{CallsLead}
 use Rattle.site_runs.specs.Bodies.{ActsLead, BlocksLead}
-use Rattle.copy_runs.specs.Copies.{CopiesLead}
+use Rattle.site_runs.specs.Copies.{CopiesLead}
 use Rattle.site_runs.proofs.Claims.{in_claim}
 use Rattle.site_runs.proofs.Finding.{IsFound, beyond, block_there, by_place, call_there, copy_there, found_back, found_front, found_inside, found_itself, numbered, row_beyond}
 use Rattle.site_runs.proofs.Lying.{both_lead, none_lead}

@@ -14,7 +14,7 @@ use Rattle.code_places.specs.Placed.{ActsLie}
 use Rattle.act_laws.specs.Words.{FitsLimit}
 use Rattle.cell_laws.specs.Standing.{IsSite}
 use Rattle.act_refines.specs.Does.{frame_of}
-use Rattle.site_claims.specs.InAttempts.{In, LeadsOn}
+use Rattle.site_runs.specs.InAttempts.{In, LeadsOn}
 
 -- Acts lead on inside blocks: wherever they lie, from what is known between the acts of an attempt to the same behind them.
 abbrev pub ActsLead : Program → (ℕ → Place) → Doing → (number : ℕ) → (blocks : List ℕ) → List Act → Type 0

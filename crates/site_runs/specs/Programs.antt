@@ -7,10 +7,10 @@ use Rattle.task_ast.specs.declared.core_form.CoreTask.{CoreTask}
 use Rattle.word_isa.specs.declared.parts.Scheme.{Scheme}
 use Rattle.word_machine.specs.State.{Program}
 use Rattle.run_plan.specs.Runs.{doing}
-use Rattle.call_runs.specs.Calls.{CallsLead}
+use Rattle.site_runs.specs.Calls.{CallsLead}
 use Rattle.code_runs.specs.Bare.{planned}
 use Rattle.site_runs.specs.Bodies.{BlocksLead}
-use Rattle.copy_runs.specs.Copies.{CopiesLead}
+use Rattle.site_runs.specs.Copies.{CopiesLead}
 
 abbrev pub AllCallsLead : Program → (ℕ → Place) → Core → World → Scheme → Type 0
 AllCallsLead p place_of c world scheme = (n : ℕ) (t : CoreTask) → slice_get c.tasks n ≡ Some t → CallsLead p place_of (doing (planned c world scheme) (suc n) t) (suc n)

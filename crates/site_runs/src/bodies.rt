@@ -1,15 +1,16 @@
 //! Blocks and statements, as the contracts of functions that do nothing (docs/CODE.md, "What is proved").
 ghost use Rattle.std.specs.Prelude.{◌≡◌, ℕ, Some, []};
-ghost use Rattle.call_runs.specs.Calls.{CallsLead};
+ghost use Rattle.site_runs.specs.Calls.{CallsLead};
 ghost use Rattle.devices.specs.Journal.{Place};
 ghost use Rattle.run_plan.specs.PlanOf.{around, body_acts};
 ghost use Rattle.run_plan.specs.Small.{Doing, core_of};
 ghost use Rattle.site_runs.specs.Bodies.{ActsLead, BlocksLead};
-ghost use Rattle.copy_runs.specs.Copies.{CopiesLead};
+ghost use Rattle.site_runs.specs.Copies.{CopiesLead};
 ghost use Rattle.task_ast.specs.WellFormed.{IsCoreTask, IsWellFormed};
 ghost use Rattle.task_attempts.specs.Boots.{task_of};
 ghost use Rattle.word_machine.specs.State.{Program};
 
+use crate::looks::looks_lead_on;
 use act_refines::{
     a_block_is_entered_as_planned, a_block_is_left_as_planned, a_block_is_sealed_as_planned,
     a_lock_is_set_as_planned, a_record_is_dropped_as_planned, a_region_is_restored_as_planned,
@@ -23,7 +24,6 @@ use code_cuts::{
     a_region_is_restored_in_cuts, a_region_is_saved_in_cuts, a_sealed_block_is_cut_well,
     a_statement_is_cut_well, a_test_is_cut_well, an_end_of_a_block_is_cut_well,
 };
-use site_claims::looks_lead_on;
 
 /// Where the acts of a block's body lead on inside it, the block's acts lead on inside the blocks around: its beginning and the
 /// mode outside are noted within, and at its end the mode is back and its record sealed anew unless it kept.

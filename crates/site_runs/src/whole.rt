@@ -4,7 +4,7 @@ ghost use Rattle.code_cuts.specs.Boots.{RunsPlan};
 ghost use Rattle.code_places.specs.Placed.{IsPlaced, program_by};
 ghost use Rattle.code_runs.specs.Bare.{planned};
 ghost use Rattle.code_runs.specs.Booting.{StopsSoon};
-ghost use Rattle.copy_runs.specs.Told.{TellsPlaces};
+ghost use Rattle.site_runs.specs.Told.{TellsPlaces};
 ghost use Rattle.devices.specs.Journal.{Place};
 ghost use Rattle.devices.specs.World.{IsWithinLimits};
 ghost use Rattle.devices.specs.declared.world.World.{World};
@@ -15,12 +15,13 @@ ghost use Rattle.word_isa.specs.declared.parts.Scheme.{Scheme};
 ghost use Rattle.word_machine.specs.State.{Program};
 
 use crate::bodies::blocks_lead_on;
+use crate::calls::calls_lead_on;
+use crate::copies::copies_lead_on;
 use act_refines::{
     a_lock_is_set_as_planned, a_region_is_restored_as_planned, a_region_is_saved_as_planned,
     a_statement_is_done_as_planned, a_test_goes_as_planned, an_attempt_begins_as_planned,
     an_attempt_begins_under_bank_as_planned, memory_is_related_between_acts,
 };
-use call_runs::calls_lead_on;
 use code_cuts::{
     a_beginning_is_cut_well, a_commit_is_cut_well, a_commit_leaves_a_step, a_lock_is_cut_well,
     a_region_is_restored_in_cuts, a_region_is_saved_in_cuts, a_statement_is_cut_well,
@@ -28,7 +29,6 @@ use code_cuts::{
 };
 use code_places::{a_stop_halts, the_code_of_a_plan_lies_in_its_image};
 use code_runs::boots_run_as_planned;
-use copy_runs::copies_lead_on;
 
 /// A machine's program in which the code of a plan lies runs the plan, cut anywhere, in every world within the limits and under
 /// both schemes, where words are told by their places.

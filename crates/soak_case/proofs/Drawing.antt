@@ -1,5 +1,5 @@
 -- What is drawn one after another.
-use Rattle.std.proofs.Common.{◌≡◌, ◌∙◌, ℕ, zero, suc, ◌+◌, ◌*◌, ◌-◌, ◌<◌, List, [], ◌∷◌, ◌++◌, refl, sym, ap, append_assoc, append-nil, arith}
+use Rattle.std.proofs.Common.{◌≡◌, ◌∙◌, ℕ, zero, suc, ◌+◌, ◌*◌, List, [], ◌∷◌, ◌++◌, refl, sym, ap, append_assoc, append-nil, arith}
 use Rattle.devices.specs.declared.world.PowerRow.{PowerRow}
 use Rattle.soak_case.specs.Draws.{drawn_below, next_state, state_behind}
 use Rattle.soak_case.specs.Readings.{readings_drawn, row_drawn, rows_drawn}

@@ -1,5 +1,5 @@
 -- The world of a soak: 400 power rows and the peripherals' readings, drawn behind the program (docs/COMMANDS.md, "Soak").
-use Rattle.std.specs.Prelude.{ℕ, zero, suc, ◌+◌, ◌*◌, List, [], ◌∷◌}
+use Rattle.std.specs.Prelude.{ℕ, zero, suc, ◌+◌, List, [], ◌∷◌}
 use Rattle.devices.specs.declared.world.PowerRow.{PowerRow}
 use Rattle.devices.specs.declared.world.World.{World}
 use Rattle.soak_case.specs.Draws.{drawn_below, state_behind}

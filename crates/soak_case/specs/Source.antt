@@ -1,5 +1,5 @@
 -- The program of a soak: 64 tasks of one shape with drawn annotations and numbers (docs/COMMANDS.md, "Soak").
-use Rattle.std.specs.Prelude.{ℕ, zero, suc, ◌+◌, ◌*◌, ◌==◌, List, [], ◌++◌, codes, decimal, if◌then◌else◌}
+use Rattle.std.specs.Prelude.{ℕ, zero, suc, ◌+◌, ◌==◌, List, [], ◌++◌, codes, decimal, if◌then◌else◌}
 use Rattle.soak_case.specs.Draws.{drawn_below, state_behind}
 use Rattle.soak_case.specs.declared.drawn.Drawn.{Drawn}
 

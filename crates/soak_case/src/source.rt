@@ -1,5 +1,5 @@
 //! The source of a soak.
-ghost use Rattle.std.specs.Prelude.{◌≡◌, ◌++◌, ◌+◌, ◌≤◌, IfOk, OnOk};
+ghost use Rattle.std.specs.Prelude.{◌≡◌, ◌++◌, ◌+◌, ◌≤◌, length, IfOk, OnOk};
 ghost use Rattle.soak_case.specs.Source as spec;
 
 use crate::drawn::Drawn;
@@ -10,8 +10,17 @@ use std::alloc::Global;
 /// How many tasks there are.
 const TASKS: u32 = 64;
 
-/// The source of the soak of a number. Its text stands in docs/COMMANDS.md, "Soak".
+/// The source of the soak of a number, short enough for a program's. Its text stands in docs/COMMANDS.md, "Soak".
 pub fn soak_source(alloc: Global, number: u32) -> Result<Text, NoMemory>
+    ensures text { IfOk result (λ text. text ≡ spec.source_of number) }
+    ensures short { IfOk result (λ text. length text ≤ 65536) }
+{
+    let text = write_source(alloc, number)?;
+    Ok(text)
+}
+
+// Writes the source, task by task.
+fn write_source(alloc: Global, number: u32) -> Result<Text, NoMemory>
     ensures { IfOk result (λ text. text ≡ spec.source_of number) }
 {
     let mut draws = Draws::new(number);

@@ -12,4 +12,5 @@ returns c =
     record {
       right = λ bytes lines is boots these n reach. answer_is core world bytes lines _ is (at lines is.are boots these n reach);
       only = λ bytes lines is boots these n reach a answers. answer_only core world lines _ (at lines is.are boots these n reach) a answers;
+      within = λ bytes lines is boots these n reach. (at lines is.are boots these n reach).within;
     }

@@ -28,3 +28,11 @@ returns-in-Some-Sites-clause-says g c =
 pub returns-in-Some-Debug-clause-says : goal.returns-in-Some-Debug-clause-says
 returns-in-Some-Debug-clause-says g c =
     form_answers _ _ _ _ _ _ (ap (λ (x : Command). Some (seen x)) (sym c.in-Some-Debug.field-0-is) ∙ ap (option_map seen) (sym c.in-Some-Debug.is) ∙ c.in_ok-command_of.ensures.form) c.debug_command.ensures.says
+
+pub returns-in-Some-Audit-clause-says : goal.returns-in-Some-Audit-clause-says
+returns-in-Some-Audit-clause-says g c =
+    form_answers _ _ _ _ _ _ (ap (λ (x : Command). Some (seen x)) (sym c.in-Some-Audit.field-0-is) ∙ ap (option_map seen) (sym c.in-Some-Audit.is) ∙ c.in_ok-command_of.ensures.form) c.audit_command.ensures.says
+
+pub returns-in-Some-Soak-clause-says : goal.returns-in-Some-Soak-clause-says
+returns-in-Some-Soak-clause-says g c =
+    form_answers _ _ _ _ _ _ (ap (λ (x : Command). Some (seen x)) (sym c.in-Some-Soak.field-0-is) ∙ ap (option_map seen) (sym c.in-Some-Soak.is) ∙ c.in_ok-command_of.ensures.form) (c.soak_command.ensures.says _ (record { faults = refl; long = refl }))

@@ -1,7 +1,7 @@
 -- Reading by reading.
 use Rattle.std.proofs.Common.{◌≡◌, suc, ◌+◌, ◌-◌, ◌++◌, ap, arith}
 use Rattle.soak_case.specs.Readings.{readings_drawn}
-use Rattle.soak_case.proofs.Drawing.{all_behind, none_behind, one_behind, readings_end, readings_on, turn_state}
+use Rattle.soak_case.proofs.Drawing.{none_behind, one_behind, readings_end, readings_on, turn_state}
 use Rattle.soak_case.proofs.readings.draw_feed.Goals as goal
 
 pub readings-init : goal.readings-init

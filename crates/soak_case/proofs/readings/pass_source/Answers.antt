@@ -1,6 +1,5 @@
 -- Draw by draw.
-use Rattle.std.proofs.Common.{◌≡◌, arith}
-use Rattle.soak_case.proofs.Drawing.{all_behind, none_behind, one_behind, turn_state}
+use Rattle.soak_case.proofs.Drawing.{none_behind, one_behind, turn_state}
 use Rattle.soak_case.proofs.readings.pass_source.Goals as goal
 
 pub numbers-init : goal.numbers-init

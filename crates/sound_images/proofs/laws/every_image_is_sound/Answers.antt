@@ -7,7 +7,7 @@ use Rattle.power_trace.specs.Report.{place_in}
 use Rattle.run_plan.specs.PlanOf.{plan_of}
 use Rattle.task_attempts.specs.Boots.{rules_of}
 use Rattle.code_places.specs.Placed.{IsPlaced, program_by}
-use Rattle.copy_runs.specs.Told.{TellsPlaces}
+use Rattle.site_runs.specs.Told.{TellsPlaces}
 use Rattle.sound_images.proofs.Soundness.{RunLaws, image_sound, program_same, sound_run, world_sound}
 use Rattle.sound_images.proofs.ToldPlaces.{told_kept, told_place}
 use Rattle.sound_images.proofs.Whole.{first_spot}

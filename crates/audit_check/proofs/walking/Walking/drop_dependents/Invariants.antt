@@ -1,5 +1,5 @@
 -- The sites that are left lead where all lead.
-use Rattle.std.proofs.Common.{◌≡◌, ◌+◌, ◌-◌, ◌≤◌}
+use Rattle.std.proofs.Common.{◌≡◌, ◌+◌, ◌-◌}
 use Rattle.io_depend.specs.Told.{tells_later}
 use Rattle.audit_check.specs.Walking.{dropped_from}
 use Rattle.audit_check.proofs.walking.Walking.drop_dependents.Given as goal

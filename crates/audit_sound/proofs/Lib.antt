@@ -1,0 +1,5 @@
+mod Legal
+mod Named
+mod Right
+mod Short
+mod Styles

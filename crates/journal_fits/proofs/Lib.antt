@@ -1,0 +1,11 @@
+pub mod Ended
+pub mod Ends
+pub mod Fits
+pub mod Held
+pub mod InImage
+pub mod Named
+pub mod NamedBoots
+pub mod NextTask
+pub mod Shown
+pub mod Steps
+pub mod Written

@@ -1,4 +1,0 @@
-pub mod Behind
-pub mod Leading
-pub mod Lists
-pub mod Looks

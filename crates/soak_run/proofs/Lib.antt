@@ -1,0 +1,5 @@
+mod CountLemmas
+mod NameLemmas
+mod RowLemmas
+mod RunLemmas
+mod SumLemmas
