@@ -1,4 +1,6 @@
 mod Halting
 mod Idling
+mod LateSeal
 mod OtherTask
+mod Restarting
 mod Worlds

@@ -1,6 +1,6 @@
 -- An image that begins task 1 and then looks for task 2 is sound for no program (`marked`).
 use Rattle.std.specs.List.{IsDistinct}
-use Rattle.std.proofs.Common.{◌≡◌, ℕ, zero, suc, List, [], ◌∷◌, All, refl, lit<, lit≤, arith}
+use Rattle.std.proofs.Common.{◌≡◌, zero, suc, [], ◌∷◌, All, refl, lit<, lit≤, arith}
 use Rattle.devices.specs.World.{AreWords, IsFeed, IsRow, IsWithinLimits}
 use Rattle.devices.specs.declared.world.World.{World}
 use Rattle.sound_images.proofs.Marked.{wrong_look_shown}

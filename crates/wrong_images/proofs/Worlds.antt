@@ -22,6 +22,10 @@ brief_row : All IsRow (row_of 2 ∷ [])
 brief_row zero d h = record { on = lit< tt; off = lit< tt; fill = lit< tt }
 brief_row (suc k) d h = absurd (omega arith)
 
+some_row : All IsRow (row_of 20 ∷ [])
+some_row zero d h = record { on = lit< tt; off = lit< tt; fill = lit< tt }
+some_row (suc k) d h = absurd (omega arith)
+
 long_row : All IsRow (row_of 200 ∷ [])
 long_row zero d h = record { on = lit< tt; off = lit< tt; fill = lit< tt }
 long_row (suc k) d h = absurd (omega arith)
@@ -29,6 +33,10 @@ long_row (suc k) d h = absurd (omega arith)
 pub brief_within : IsWithinLimits (lasting 2)
 unfolding IsDistinct
 brief_within = record { distinct = tt; feeds = no_feeds; rows = brief_row; retained = no_words; steps = lit≤ tt; ticks = lit≤ tt }
+
+pub some_within : IsWithinLimits (lasting 20)
+unfolding IsDistinct
+some_within = record { distinct = tt; feeds = no_feeds; rows = some_row; retained = no_words; steps = lit≤ tt; ticks = lit≤ tt }
 
 pub long_within : IsWithinLimits (lasting 200)
 unfolding IsDistinct
